@@ -39,7 +39,7 @@ impl Hash for Expr {
     ghost respects_eq = { (on_Alike tree_of (same_Alike tree_feed tree_eq-Decides)).fed };
 
     #[cycle(hash)]
-    #[tactic(auto, using(crate::proofs::NodeParts::tree_of_call, crate::proofs::NodeParts::tree_of_extension, crate::proofs::NodeParts::tree_of_aggregate))]
+    #[tactic(auto, using(crate::proofs::nodes::NodeParts::tree_of_call, crate::proofs::nodes::NodeParts::tree_of_extension, crate::proofs::nodes::NodeParts::tree_of_aggregate))]
     fn hash<H: Hasher>(&self, state: &mut H) {
         match self {
             Expr::Aggregate(e) => e.hash(state),

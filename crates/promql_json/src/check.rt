@@ -110,7 +110,7 @@ fn check_args(args: &[Box<Expr>]) -> Result<(), JsonError>
 
 /// The first fault of an expression, if it has one.
 #[cycle(check)]
-#[tactic(auto, using(promql_ast::proofs::NodeParts::tree_of_call, promql_ast::proofs::NodeParts::tree_of_extension, promql_ast::proofs::NodeParts::tree_of_aggregate))]
+#[tactic(auto, using(promql_ast::proofs::nodes::NodeParts::tree_of_call, promql_ast::proofs::nodes::NodeParts::tree_of_extension, promql_ast::proofs::nodes::NodeParts::tree_of_aggregate))]
 pub(crate) fn check_expr(expr: &Expr) -> Result<(), JsonError>
     ensures fits { OnOk result (json_fault (tree_of expr.now) ≡ None) }
     ensures err { IfErr result (λ e. json_fault (tree_of expr.now) ≡ Some e) }

@@ -246,7 +246,7 @@ fn write_args(out: &mut JsonWriter, alloc: Global, args: &[Box<Expr>]) -> Result
 }
 
 #[cycle(text)]
-#[tactic(auto, using(promql_ast::proofs::NodeParts::tree_of_call, promql_ast::proofs::NodeParts::tree_of_extension, promql_ast::proofs::NodeParts::tree_of_aggregate))]
+#[tactic(auto, using(promql_ast::proofs::nodes::NodeParts::tree_of_call, promql_ast::proofs::nodes::NodeParts::tree_of_extension, promql_ast::proofs::nodes::NodeParts::tree_of_aggregate))]
 fn write_expr(out: &mut JsonWriter, alloc: Global, expr: &Expr) -> Result<(), AllocError>
     requires { json_fault (tree_of expr.now) ≡ None }
     ensures { OnOk result (out.new ≡ out.old ++ tree_tokens (tree_of expr.now)) }

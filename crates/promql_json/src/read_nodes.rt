@@ -474,7 +474,7 @@ fn type_of_node(value: &Value) -> &str
 
 /// The expression of an object.
 #[cycle(read)]
-#[tactic(auto, using(promql_ast::proofs::NodeParts::tree_of_call, promql_ast::proofs::NodeParts::tree_of_extension, promql_ast::proofs::NodeParts::tree_of_aggregate))]
+#[tactic(auto, using(promql_ast::proofs::nodes::NodeParts::tree_of_call, promql_ast::proofs::nodes::NodeParts::tree_of_extension, promql_ast::proofs::nodes::NodeParts::tree_of_aggregate))]
 fn read_node(
     alloc: Global,
     node: &str,

@@ -4,8 +4,8 @@ use Rattle.std.specs.Hash.{bool, i32, isize, option, slice, str}
 use Rattle.promql_text.specs.contracts.number.NumberHash.TheImpl as numbers
 use Rattle.promql_text.specs.declared.number.Number.{Number}
 use Rattle.promql_text.specs.declared.number.Number.TheVariants.{Finite, Inf, NegInf, NaN}
-use Rattle.promql_label.proofs.FedLists.{option_fed, slice_fed}
-use Rattle.promql_label.proofs.FedMatchers.{labels_fed}
+use Rattle.promql_label.proofs.equality.FedLists.{option_fed, slice_fed}
+use Rattle.promql_label.proofs.equality.FedMatchers.{labels_fed}
 use Rattle.promql_kind.specs.Functions.{signature_of}
 use Rattle.promql_kind.specs.ModifierFeeds.{cardinality_feed, clause_feed, fills_feed, matching_feed, number_feed, signature_feed, type_feed}
 use Rattle.promql_kind.specs.ModifierViews.{clause_of, cardinality_of, fills_of, matching_of}

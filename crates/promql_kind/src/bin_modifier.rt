@@ -182,7 +182,7 @@ impl fmt::Display for BinModifier {
 
     ghost styled_output = { λ m _. Some (modifier_text (matching_of m)) };
 
-    #[tactic(auto, using(promql_text::proofs::AllOptions::styled))]
+    #[tactic(auto, using(promql_text::proofs::writing::AllOptions::styled))]
     fn fmt<W: fmt::Write>(&self, f: &mut fmt::Formatter<W>) -> fmt::Result {
         write_bool(self.return_bool, f)?;
         write_matched(self.card.is_grouping(), &self.matching, f)?;
@@ -238,7 +238,7 @@ fn write_grouping<W: fmt::Write>(
     }
 }
 
-#[tactic(auto, using(promql_text::proofs::AllOptions::styled))]
+#[tactic(auto, using(promql_text::proofs::writing::AllOptions::styled))]
 fn write_labels<W: fmt::Write>(
     before: &str,
     labels: &Labels,
@@ -253,7 +253,7 @@ fn write_labels<W: fmt::Write>(
 }
 
 /// Writes the fill values: one clause if they are equal, else one for each that is there.
-#[tactic(auto, using(promql_text::proofs::AllOptions::styled))]
+#[tactic(auto, using(promql_text::proofs::writing::AllOptions::styled))]
 fn write_fills<W: fmt::Write>(
     lhs: &Option<Number>,
     rhs: &Option<Number>,
@@ -281,7 +281,7 @@ fn write_fills<W: fmt::Write>(
     }
 }
 
-#[tactic(auto, using(promql_text::proofs::AllOptions::styled))]
+#[tactic(auto, using(promql_text::proofs::writing::AllOptions::styled))]
 fn write_fill<W: fmt::Write>(
     before: &str,
     number: &Number,

@@ -17,7 +17,7 @@ use promql_text::{Number, number_printed_len};
 
 impl BinModifier {
     /// The bytes that the modifier prints, up to the greatest `usize`.
-    #[tactic(auto, using(promql_text::proofs::PrintedLengths::printed_len_append))]
+    #[tactic(auto, using(promql_text::proofs::writing::PrintedLengths::printed_len_append))]
     pub fn printed_len(&self) -> usize
         ensures { result ≡ printed_len (modifier_text (matching_of self.now)) }
     {
@@ -62,7 +62,7 @@ fn grouping_len(card: &VectorMatchCardinality) -> usize
 }
 
 /// The bytes of a word with a parenthesis, the labels, and the closing parenthesis.
-#[tactic(auto, using(promql_text::proofs::PrintedLengths::printed_len_append))]
+#[tactic(auto, using(promql_text::proofs::writing::PrintedLengths::printed_len_append))]
 fn labels_len(before: &str, labels: &Labels) -> usize
     ensures { result ≡ printed_len (before.now ++ (labels_text (labels_of labels.now) ++ codes ")")) }
 {
@@ -72,7 +72,7 @@ fn labels_len(before: &str, labels: &Labels) -> usize
 }
 
 /// The bytes of the fill values: one clause if they are equal, else one for each that is there.
-#[tactic(auto, using(promql_text::proofs::PrintedLengths::printed_len_append))]
+#[tactic(auto, using(promql_text::proofs::writing::PrintedLengths::printed_len_append))]
 fn fills_len(lhs: &Option<Number>, rhs: &Option<Number>) -> usize
     ensures { result ≡ printed_len (fills_text (spec.fills rhs.now lhs.now)) }
 {
@@ -94,7 +94,7 @@ fn fills_len(lhs: &Option<Number>, rhs: &Option<Number>) -> usize
     }
 }
 
-#[tactic(auto, using(promql_text::proofs::PrintedLengths::printed_len_append))]
+#[tactic(auto, using(promql_text::proofs::writing::PrintedLengths::printed_len_append))]
 fn fill_len(before: &str, number: &Number) -> usize
     ensures { result ≡ printed_len (before.now ++ (number_text number.now ++ codes ")")) }
 {

@@ -51,7 +51,7 @@ fn any_matches_empty(branches: &[Hir]) -> bool
 }
 
 /// Whether an assertion holds in the empty text: all do but those that ask for a word beside them.
-#[tactic(auto, using(crate::proofs::EmptyText::holds_nowhere))]
+#[tactic(auto, using(crate::proofs::regex_answers::EmptyText::holds_nowhere))]
 fn holds(look: Look) -> bool
     ensures { result ≡ holds look [] 0 }
 {

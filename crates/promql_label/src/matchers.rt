@@ -138,7 +138,7 @@ impl Matchers {
     }
 
     /// The value of the first matcher of this name.
-    #[tactic(auto, using(crate::proofs::MatcherSearch::searching))]
+    #[tactic(auto, using(crate::proofs::label_lists::MatcherSearch::searching))]
     pub fn find_matcher_value(&self, name: &str) -> Option<&str>
         ensures { option_map (λ v. v.now) result
             ≡ found_value (plain_matchers_of self.now) name.now }

@@ -6,7 +6,7 @@ use Rattle.promql_label.specs.PlainMatchers.{PlainMatcher}
 use Rattle.promql_ast.specs.Height.{height}
 use Rattle.promql_ast.specs.Tree.{Tree, aggregate, unary, binary, paren, subquery, number, string, vector, matrix, call, extension, MaybeTree, absent, present, Trees, no_trees, first_tree}
 use Rattle.promql_rewrite.specs.Enforcing.{all_enforced, enforced, maybe_enforced}
-use Rattle.promql_rewrite.proofs.EnforcedTypes.{height_enforced}
+use Rattle.promql_rewrite.proofs.enforcement.EnforcedTypes.{height_enforced}
 use Rattle.promql_syntax.specs.declared.parser.TheConstants.{MAX_DEPTH}
 use Rattle.promql_span.specs.declared.limits.Limits.{Limits}
 use Rattle.promql_run.specs.Extensions.{HasNoExtension, NoneInEach, NoneInParam}

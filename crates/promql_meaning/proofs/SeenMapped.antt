@@ -15,7 +15,7 @@ use Rattle.promql_rewrite.specs.declared.mapping.SelectorKind.TheVariants.{Serie
 use Rattle.promql_meaning.specs.Stores.{Store}
 use Rattle.promql_meaning.specs.Seen.{Seen, Seens, joined, aggregated, negated, operated, stepped, constant, text, instants, ranges, called, extended, none_seen, first_seen, seen, maybe_seen, all_seen, is_absent, nothing, sees_beside, has_call_that_sees_beside}
 use Rattle.promql_meaning.proofs.SeenClauses.{instants_of, ranges_of, grouped}
-use Rattle.promql_rewrite.proofs.KindedSelectors.{selectors_are}
+use Rattle.promql_rewrite.proofs.mapped.KindedSelectors.{selectors_are}
 use Rattle.promql_meaning.proofs.NoNodes.{neither, none_apart}
 use Rattle.promql_meaning.proofs.SeenAtHome.{sees_nothing_beside}
 

@@ -12,7 +12,7 @@ use Rattle.promql_ast.specs.Normal.{normal_matchers, normal_selector, normal_cla
 use Rattle.promql_ast.specs.Selectors.{Selector, selector}
 use Rattle.promql_ast.specs.Tree.{Tree, aggregate, unary, binary, paren, subquery, number, string, vector, matrix, call, extension, MaybeTree, absent, present, Trees, no_trees, first_tree}
 use Rattle.promql_ast.specs.declared.range_mode.RangeMode.{RangeMode}
-use Rattle.promql_ast.proofs.NormalForms.{normal_twice}
+use Rattle.promql_ast.proofs.normal_form.NormalForms.{normal_twice}
 use Rattle.promql_rewrite.specs.Enforcing.{is_info}
 use Rattle.promql_rewrite.specs.Selecting.{Series, allows, allow_all, has_name, matchers_select, selects}
 use Rattle.promql_meaning.specs.Stores.{Stored, Store, read}

@@ -10,7 +10,7 @@ use Rattle.promql_rewrite.specs.Collecting.{nodes_of, maybe_nodes, all_nodes}
 use Rattle.promql_rewrite.specs.Enforcing.{is_info}
 use Rattle.promql_rewrite.specs.Renaming.{Renaming, all_renamed, maybe_renamed, of_label, of_metric, renamed, renamed_cardinality, renamed_clause, renamed_matching, renamed_selector, replaced}
 use Rattle.promql_rewrite.specs.Selecting.{selects}
-use Rattle.promql_rewrite.proofs.RenamedSeries.{label_selects}
+use Rattle.promql_rewrite.proofs.renamed.RenamedSeries.{label_selects}
 use Rattle.promql_meaning.specs.Stores.{Store, Stored, read}
 use Rattle.promql_meaning.specs.Seen.{joined, aggregated, negated, operated, stepped, instants, ranges, called, extended, none_seen, first_seen, seen, maybe_seen, all_seen, is_absent, nothing, sees_beside, has_call_that_sees_beside}
 use Rattle.promql_meaning.proofs.SeenClauses.{instants_of, ranges_of, grouped, matched}

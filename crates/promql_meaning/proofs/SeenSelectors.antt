@@ -6,7 +6,7 @@ use Rattle.promql_ast.specs.Selectors.{Selector, selector}
 use Rattle.promql_ast.specs.declared.range_mode.RangeMode.{RangeMode}
 use Rattle.promql_rewrite.specs.Enforcing.{enforced_selector}
 use Rattle.promql_rewrite.specs.Selecting.{allows, selects}
-use Rattle.promql_rewrite.proofs.EnforcedSelectors.{selects_enforced}
+use Rattle.promql_rewrite.proofs.enforcement.EnforcedSelectors.{selects_enforced}
 use Rattle.promql_meaning.specs.Stores.{Stored, Store, kept, read}
 use Rattle.promql_meaning.specs.Seen.{instants, ranges}
 use Rattle.promql_meaning.proofs.SeenClauses.{instants_of, ranges_of}

@@ -16,7 +16,7 @@ use Rattle.promql_ast.specs.Fold.{all_within}
 use Rattle.promql_ast.specs.Tree.{Tree, aggregate, unary, binary, paren, subquery, number, string, vector, matrix, call, MaybeTree, absent, present, Trees}
 use Rattle.promql_syntax.specs.Building.{build, build_all}
 use Rattle.promql_syntax.specs.FaultTokens.{Subexpression, here, rest_count}
-use Rattle.promql_syntax.proofs.CheckedAgain.{arguments}
+use Rattle.promql_syntax.proofs.readback.CheckedAgain.{arguments}
 use Rattle.promql_places.proofs.Pairs.{InOrder}
 use Rattle.promql_places.specs.NodePlaces.{BuildEach, IsNested, LiesWithin, argument_nodes, has_node, is_number, nodes, nodes_below, tree_nodes}
 use Rattle.promql_places.specs.PlacedFormSteps.{nodes_within}

@@ -29,8 +29,8 @@ use Rattle.promql_syntax.specs.Postfixes.{bound_moment, range_mode}
 use Rattle.promql_syntax.specs.BuildErrors.{BuildError, check, unknown_function}
 use Rattle.promql_syntax.specs.PartBuilding.{braces_value, clause_value, duration_value, modifier_value, moment_value, number_value, shift_value, step_value, string_value, time_value}
 use Rattle.promql_syntax.specs.Atoms.{any_braces_value}
-use Rattle.promql_syntax.proofs.CheckedAgain.{aggregate_again, aggregates, arguments, call_again, same_tree, unary_again}
-use Rattle.promql_syntax.proofs.PrintedModifiers.{binary_checked}
+use Rattle.promql_syntax.proofs.readback.CheckedAgain.{aggregate_again, aggregates, arguments, call_again, same_tree, unary_again}
+use Rattle.promql_syntax.proofs.printed.PrintedModifiers.{binary_checked}
 
 -- ---- building that gives a value
 

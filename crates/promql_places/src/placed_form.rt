@@ -82,7 +82,7 @@ fn node_value(alloc: Global, expr: &Expr, nodes: &mut NodesLeft<'_>) -> Result<V
 
 /// Puts the members that hold matchers or other nodes.
 #[cycle(placed_form)]
-#[tactic(auto, using(promql_ast::proofs::NodeParts::tree_of_call, promql_ast::proofs::NodeParts::tree_of_extension, promql_ast::proofs::NodeParts::tree_of_aggregate))]
+#[tactic(auto, using(promql_ast::proofs::nodes::NodeParts::tree_of_call, promql_ast::proofs::nodes::NodeParts::tree_of_extension, promql_ast::proofs::nodes::NodeParts::tree_of_aggregate))]
 fn put_inside(
     expr: &Expr,
     members: &mut Map<String, Value>,

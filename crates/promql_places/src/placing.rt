@@ -104,7 +104,7 @@ pub fn place_expr(expr: &Expr, placing: &mut Placing<'_>) -> Result<(), AllocErr
 
 /// The nodes below the expression's own, and its parts.
 #[cycle(placing)]
-#[tactic(auto, using(promql_ast::proofs::NodeParts::tree_of_call, promql_ast::proofs::NodeParts::tree_of_aggregate))]
+#[tactic(auto, using(promql_ast::proofs::nodes::NodeParts::tree_of_call, promql_ast::proofs::nodes::NodeParts::tree_of_aggregate))]
 fn place_inside(
     expr: &Expr,
     parts: &mut Vec<Part>,

@@ -32,7 +32,7 @@ struct BareInfo;
 impl NodeTest for BareInfo {
     ghost passing = { λ _ t. is_bare_info t };
 
-    #[tactic(auto, using(promql_ast::proofs::NodeParts::tree_of_call, promql_ast::proofs::NodeParts::tree_of_extension, promql_ast::proofs::NodeParts::tree_of_aggregate))]
+    #[tactic(auto, using(promql_ast::proofs::nodes::NodeParts::tree_of_call, promql_ast::proofs::nodes::NodeParts::tree_of_extension, promql_ast::proofs::nodes::NodeParts::tree_of_aggregate))]
     fn passes(&self, node: &Expr) -> bool {
         match node {
             Expr::Call(call) => is_bare(call),

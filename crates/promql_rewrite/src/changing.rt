@@ -52,7 +52,7 @@ pub(crate) trait PartChange {
 
 /// Changes every part of the expression. Where an allocation fails, some of them may be changed.
 #[cycle(change)]
-#[tactic(auto, using(promql_ast::proofs::NodeParts::tree_of_call, promql_ast::proofs::NodeParts::tree_of_extension, promql_ast::proofs::NodeParts::tree_of_aggregate))]
+#[tactic(auto, using(promql_ast::proofs::nodes::NodeParts::tree_of_call, promql_ast::proofs::nodes::NodeParts::tree_of_extension, promql_ast::proofs::nodes::NodeParts::tree_of_aggregate))]
 pub(crate) fn change_parts<C: PartChange>(
     alloc: Global,
     expr: &mut Expr,

@@ -39,7 +39,7 @@ pub(crate) fn has_clash(expr: &Expr, from: &str, to: &str) -> bool
 }
 
 /// Whether the node itself lists the label.
-#[tactic(auto, using(promql_ast::proofs::NodeParts::tree_of_call, promql_ast::proofs::NodeParts::tree_of_extension, promql_ast::proofs::NodeParts::tree_of_aggregate))]
+#[tactic(auto, using(promql_ast::proofs::nodes::NodeParts::tree_of_call, promql_ast::proofs::nodes::NodeParts::tree_of_extension, promql_ast::proofs::nodes::NodeParts::tree_of_aggregate))]
 fn lists(node: &Expr, label: &str) -> bool
     ensures { result ≡ is_among (listed_labels (tree_of node.now)) label.now }
 {
@@ -90,7 +90,7 @@ fn is_in_modifier(modifier: &Option<BinModifier>, label: &str) -> bool
 }
 
 /// Whether the label is after `on`, `ignoring`, `group_left` or `group_right`.
-#[tactic(auto, using(crate::proofs::ListedNodes::any_of_both))]
+#[tactic(auto, using(crate::proofs::rules_broken::ListedNodes::any_of_both))]
 fn is_in_matching(modifier: &BinModifier, label: &str) -> bool
     ensures { result ≡ is_among (matching_labels (matching_of modifier.now)) label.now }
 {

@@ -96,7 +96,7 @@ fn push_expr(alloc: Global, expr: &Expr, found: &mut Collected) -> Result<(), Al
 
 /// Appends what the nodes within the expression name.
 #[cycle(collect)]
-#[tactic(auto, using(promql_ast::proofs::NodeParts::tree_of_call, promql_ast::proofs::NodeParts::tree_of_extension, promql_ast::proofs::NodeParts::tree_of_aggregate))]
+#[tactic(auto, using(promql_ast::proofs::nodes::NodeParts::tree_of_call, promql_ast::proofs::nodes::NodeParts::tree_of_extension, promql_ast::proofs::nodes::NodeParts::tree_of_aggregate))]
 fn push_within(alloc: Global, expr: &Expr, found: &mut Collected) -> Result<(), AllocError>
     ensures { OnOk result (names_of found.new
         ≡ joined (names_of found.old) (names_in (nodes_within (tree_of expr.now)))) }
@@ -181,7 +181,7 @@ fn push_children(alloc: Global, children: &[Expr], found: &mut Collected) -> Res
 }
 
 /// Appends what the node names itself.
-#[tactic(auto, using(promql_ast::proofs::NodeParts::tree_of_call, promql_ast::proofs::NodeParts::tree_of_extension, promql_ast::proofs::NodeParts::tree_of_aggregate))]
+#[tactic(auto, using(promql_ast::proofs::nodes::NodeParts::tree_of_call, promql_ast::proofs::nodes::NodeParts::tree_of_extension, promql_ast::proofs::nodes::NodeParts::tree_of_aggregate))]
 fn push_own(alloc: Global, node: &Expr, found: &mut Collected) -> Result<(), AllocError>
     ensures { OnOk result (names_of found.new
         ≡ joined (names_of found.old) (own_names (tree_of node.now))) }

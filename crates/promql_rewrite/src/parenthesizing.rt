@@ -45,7 +45,7 @@ pub fn parenthesized(alloc: Global, expr: Expr) -> Result<Expr, AllocError>
 
 /// Puts parentheses where they are needed. Where an allocation fails, some may be there.
 #[cycle(parenthesize)]
-#[tactic(auto, using(promql_ast::proofs::NodeParts::tree_of_call, promql_ast::proofs::NodeParts::tree_of_extension, promql_ast::proofs::NodeParts::tree_of_aggregate))]
+#[tactic(auto, using(promql_ast::proofs::nodes::NodeParts::tree_of_call, promql_ast::proofs::nodes::NodeParts::tree_of_extension, promql_ast::proofs::nodes::NodeParts::tree_of_aggregate))]
 fn parenthesize(alloc: Global, expr: &mut Expr) -> Result<(), AllocError>
     ensures { OnOk result (tree_of expr.new ≡ spec.parenthesized (tree_of expr.old)) }
 {
@@ -195,7 +195,7 @@ pub(crate) fn fits_left(op: TokenId, expr: &Expr) -> bool
 }
 
 /// Whether the expression may be the right side of the operator as it is.
-#[tactic(auto, using(promql_ast::proofs::NodeParts::tree_of_call, promql_ast::proofs::NodeParts::tree_of_extension, promql_ast::proofs::NodeParts::tree_of_aggregate))]
+#[tactic(auto, using(promql_ast::proofs::nodes::NodeParts::tree_of_call, promql_ast::proofs::nodes::NodeParts::tree_of_extension, promql_ast::proofs::nodes::NodeParts::tree_of_aggregate))]
 pub(crate) fn fits_right(op: TokenId, expr: &Expr) -> bool
     ensures { result ≡ spec.fits_right op (tree_of expr.now) }
 {
@@ -222,7 +222,7 @@ fn binds_right(op: TokenId, inner: TokenId) -> bool
 }
 
 /// Whether the expression may follow a minus sign as it is.
-#[tactic(auto, using(promql_ast::proofs::NodeParts::tree_of_call, promql_ast::proofs::NodeParts::tree_of_extension, promql_ast::proofs::NodeParts::tree_of_aggregate))]
+#[tactic(auto, using(promql_ast::proofs::nodes::NodeParts::tree_of_call, promql_ast::proofs::nodes::NodeParts::tree_of_extension, promql_ast::proofs::nodes::NodeParts::tree_of_aggregate))]
 pub(crate) fn fits_sign(expr: &Expr) -> bool
     ensures { result ≡ spec.fits_sign (tree_of expr.now) }
 {
@@ -242,7 +242,7 @@ pub(crate) fn fits_sign(expr: &Expr) -> bool
 }
 
 /// Whether the range of a subquery may follow the expression as it is.
-#[tactic(auto, using(promql_ast::proofs::NodeParts::tree_of_call, promql_ast::proofs::NodeParts::tree_of_extension, promql_ast::proofs::NodeParts::tree_of_aggregate))]
+#[tactic(auto, using(promql_ast::proofs::nodes::NodeParts::tree_of_call, promql_ast::proofs::nodes::NodeParts::tree_of_extension, promql_ast::proofs::nodes::NodeParts::tree_of_aggregate))]
 pub(crate) fn fits_range(expr: &Expr) -> bool
     ensures { result ≡ spec.fits_range (tree_of expr.now) }
 {
@@ -262,7 +262,7 @@ pub(crate) fn fits_range(expr: &Expr) -> bool
 }
 
 /// The highest precedence of an operator that may follow the expression and take all of it as its left side.
-#[tactic(auto, using(promql_ast::proofs::NodeParts::tree_of_call, promql_ast::proofs::NodeParts::tree_of_extension, promql_ast::proofs::NodeParts::tree_of_aggregate))]
+#[tactic(auto, using(promql_ast::proofs::nodes::NodeParts::tree_of_call, promql_ast::proofs::nodes::NodeParts::tree_of_extension, promql_ast::proofs::nodes::NodeParts::tree_of_aggregate))]
 fn openness(expr: &Expr) -> usize
     ensures { result ≡ printable.openness (tree_of expr.now) }
 {

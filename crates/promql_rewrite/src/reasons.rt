@@ -38,7 +38,7 @@ pub(crate) fn first_reason(expr: &Expr) -> Option<NotPrintable>
 }
 
 /// What is wrong with the node itself.
-#[tactic(auto, using(promql_ast::proofs::NodeParts::tree_of_call, promql_ast::proofs::NodeParts::tree_of_extension, promql_ast::proofs::NodeParts::tree_of_aggregate))]
+#[tactic(auto, using(promql_ast::proofs::nodes::NodeParts::tree_of_call, promql_ast::proofs::nodes::NodeParts::tree_of_extension, promql_ast::proofs::nodes::NodeParts::tree_of_aggregate))]
 fn own_reason(expr: &Expr) -> Option<NotPrintable>
     ensures { FoundAtRoot result (tree_of expr.now) }
 {
@@ -213,7 +213,7 @@ fn is_offset(offset: &Option<Offset>) -> bool
 
 /// What is wrong with the first such node below this one.
 #[cycle(reason)]
-#[tactic(auto, using(promql_ast::proofs::NodeParts::tree_of_call, promql_ast::proofs::NodeParts::tree_of_extension, promql_ast::proofs::NodeParts::tree_of_aggregate))]
+#[tactic(auto, using(promql_ast::proofs::nodes::NodeParts::tree_of_call, promql_ast::proofs::nodes::NodeParts::tree_of_extension, promql_ast::proofs::nodes::NodeParts::tree_of_aggregate))]
 fn reason_below(expr: &Expr) -> Option<NotPrintable>
     ensures { FoundBelow result (tree_of expr.now) }
 {

@@ -31,7 +31,7 @@ pub(crate) fn has_node<T: NodeTest>(expr: &Expr, test: &T) -> bool
 
 /// Whether a node within the expression does.
 #[cycle(some_node)]
-#[tactic(auto, using(promql_ast::proofs::NodeParts::tree_of_call, promql_ast::proofs::NodeParts::tree_of_extension, promql_ast::proofs::NodeParts::tree_of_aggregate))]
+#[tactic(auto, using(promql_ast::proofs::nodes::NodeParts::tree_of_call, promql_ast::proofs::nodes::NodeParts::tree_of_extension, promql_ast::proofs::nodes::NodeParts::tree_of_aggregate))]
 fn has_within<T: NodeTest>(expr: &Expr, test: &T) -> bool
     ensures { result ≡ list_any (T.passing test.now) (nodes_within (tree_of expr.now)) }
 {
@@ -51,7 +51,7 @@ fn has_within<T: NodeTest>(expr: &Expr, test: &T) -> bool
 }
 
 #[cycle(some_node)]
-#[tactic(auto, using(crate::proofs::ListedNodes::any_of_both))]
+#[tactic(auto, using(crate::proofs::rules_broken::ListedNodes::any_of_both))]
 fn has_in_aggregate<T: NodeTest>(node: &AggregateExpr, test: &T) -> bool
     ensures { result ≡ list_any (T.passing test.now) (nodes_within (aggregate_tree node.now)) }
 {
@@ -72,7 +72,7 @@ fn has_in_param<T: NodeTest>(param: &Option<Box<Expr>>, test: &T) -> bool
 }
 
 #[cycle(some_node)]
-#[tactic(auto, using(crate::proofs::ListedNodes::any_of_both))]
+#[tactic(auto, using(crate::proofs::rules_broken::ListedNodes::any_of_both))]
 fn has_in_sides<T: NodeTest>(node: &BinaryExpr, test: &T) -> bool
     ensures { result ≡ list_any (T.passing test.now) (nodes_within (binary_tree node.now)) }
 {

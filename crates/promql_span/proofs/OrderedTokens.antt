@@ -11,9 +11,9 @@ use Rattle.promql_token.specs.declared.lexeme.Lexeme.{Lexeme}
 use Rattle.promql_token.specs.declared.state.State.{State}
 use Rattle.promql_token.specs.Lexing.{ScannedText, Found, cut, found, goes_on, item, items, len_of, place_items, scanned_text, start, state_after_scan}
 use Rattle.promql_token.specs.TokenScanning.{Scanned, after_trivia, trivia_len}
-use Rattle.promql_token.proofs.Ends.{PieceEnds, piece_ends}
-use Rattle.promql_token.proofs.Steps.{cut_is, found_fits}
-use Rattle.promql_token.proofs.TestsAndCounts.{by_bool}
+use Rattle.promql_token.proofs.one_reading.Ends.{PieceEnds, piece_ends}
+use Rattle.promql_token.proofs.one_reading.Steps.{cut_is, found_fits}
+use Rattle.promql_token.proofs.cursors.TestsAndCounts.{by_bool}
 use Rattle.promql_span.specs.PlacedTokens.{placed_tokens}
 use Rattle.promql_span.specs.TokensLeft.{up_to_end}
 

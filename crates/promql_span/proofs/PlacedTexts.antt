@@ -8,9 +8,9 @@ use Rattle.promql_token.specs.declared.lexeme.Lexeme.{Lexeme}
 use Rattle.promql_token.specs.declared.state.State.{State}
 use Rattle.promql_token.specs.Cursor.{is_before_end, up_to_fault}
 use Rattle.promql_token.specs.Lexing.{ScannedText, Found, cut, found, goes_on, item, len_of, lex, place_items, result_texts, slice_texts, start, state_after_scan, text_at}
-use Rattle.promql_token.proofs.Spans.{spans, stands}
-use Rattle.promql_token.proofs.Steps.{cut_is, found_fits}
-use Rattle.promql_token.proofs.TestsAndCounts.{by_bool}
+use Rattle.promql_token.proofs.one_reading.Spans.{spans, stands}
+use Rattle.promql_token.proofs.one_reading.Steps.{cut_is, found_fits}
+use Rattle.promql_token.proofs.cursors.TestsAndCounts.{by_bool}
 use Rattle.promql_span.specs.PlacedTokens.{PiecesArePlaced, TokensArePlaced, placed_tokens}
 use Rattle.promql_span.specs.TokensLeft.{up_to_end}
 use Rattle.promql_span.proofs.OrderedTokens.{placed_is}

@@ -6,7 +6,7 @@ use Rattle.std.proofs.Math.Seq.{drop-append_seam, take-append_seam}
 use Rattle.std.proofs.lemmas.List.{take-append-drop}
 use Rattle.promql_text.specs.Texts.{Text}
 use Rattle.promql_token.specs.declared.lexeme.Lexeme.{Lexeme}
-use Rattle.promql_token.proofs.TestsAndCounts.{by_bool}
+use Rattle.promql_token.proofs.cursors.TestsAndCounts.{by_bool}
 use Rattle.promql_span.specs.declared.span.Span.{Span}
 use Rattle.promql_span.specs.PlacedTokens.{first_span, last_tokens, placed_tokens, span_of}
 use Rattle.promql_span.specs.TokenSpans.{IsAtTokens, span_over, tokens_by}

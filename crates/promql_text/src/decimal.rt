@@ -45,7 +45,7 @@ impl Model for Decimal {
 }
 
 /// How many digits the number has; zero has one.
-#[tactic(auto, using(crate::proofs::DigitCounts::count_step, crate::proofs::DigitCounts::count_small, crate::proofs::DigitCounts::count_short))]
+#[tactic(auto, using(crate::proofs::numerals::DigitCounts::count_step, crate::proofs::numerals::DigitCounts::count_small, crate::proofs::numerals::DigitCounts::count_short))]
 pub(crate) fn digit_count(n: u128) -> u128
     requires { n < 10 ^ 38 }
     ensures value { result ≡ digit_count n }

@@ -56,7 +56,7 @@ pub struct DecimalForm<S> {
 }
 
 /// The text after the longest run of digits at the start.
-#[tactic(auto, using(crate::proofs::Runs::past_run_digit, crate::proofs::Runs::past_run_other))]
+#[tactic(auto, using(crate::proofs::numerals::Runs::past_run_digit, crate::proofs::numerals::Runs::past_run_other))]
 pub(crate) fn past_run<S: Source>(text: S) -> S
     ensures { S.left result ≡ spec.past_run (S.left text) }
 {

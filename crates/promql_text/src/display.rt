@@ -62,7 +62,7 @@ impl fmt::Display for Decimal {
 
     ghost styled_output = { λ d _. Some (exact_text d) };
 
-    #[tactic(auto, using(crate::proofs::AllOptions::styled))]
+    #[tactic(auto, using(crate::proofs::writing::AllOptions::styled))]
     fn fmt<W: fmt::Write>(&self, f: &mut fmt::Formatter<W>) -> fmt::Result {
         if self.is_negative {
             f.write_str("-")?;

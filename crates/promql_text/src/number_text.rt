@@ -229,7 +229,7 @@ fn short_whole(text: &str) -> Option<u64>
 }
 
 /// The number of the digits before and, after them, those at the start of the text; and what comes after these.
-#[tactic(auto, using(crate::proofs::Runs::past_run_digit, crate::proofs::Runs::past_run_other))]
+#[tactic(auto, using(crate::proofs::numerals::Runs::past_run_digit, crate::proofs::numerals::Runs::past_run_other))]
 fn digits_at_start<S: Source>(before: u64, text: S) -> (u64, S)
     requires { (before + 1) * 10 ^ length (S.left text) ≤ 10 ^ 19 }
     ensures value { result.0 ≡ digits_value_after 10 before (digit_run (S.left text)) }

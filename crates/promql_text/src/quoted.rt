@@ -23,7 +23,7 @@ impl fmt::Display for Quoted<'_> {
 
     ghost styled_output = { λ text _. Some (quoted_text text.0.now) };
 
-    #[tactic(auto, using(crate::proofs::AllOptions::styled))]
+    #[tactic(auto, using(crate::proofs::writing::AllOptions::styled))]
     fn fmt<W: fmt::Write>(&self, f: &mut fmt::Formatter<W>) -> fmt::Result {
         f.write_str("\"")?;
         write_escaped(self.0, f)?;

@@ -121,7 +121,7 @@ fn end_of_name(z: &[u8], at: usize) -> usize
 
 /// The length of the run of letters, digits and `_` at the front, where a letter or `_` is first.
 #[inline(always)]
-#[tactic(auto, using(crate::proofs::Names::name_run))]
+#[tactic(auto, using(crate::proofs::words::Names::name_run))]
 pub fn name_len(z: &[u8]) -> usize
     requires { spec.is_letter (slice_index z.now 0) ≡ true }
     ensures value { result ≡ spec.end_of_run Name z.now 0 }

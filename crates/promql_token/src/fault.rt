@@ -182,7 +182,7 @@ impl fmt::Display for LexFault {
 
     ghost styled_output = { λ f _. Some (spec.message f) };
 
-    #[tactic(auto, using(promql_text::proofs::AllOptions::styled))]
+    #[tactic(auto, using(promql_text::proofs::writing::AllOptions::styled))]
     fn fmt<W: fmt::Write>(&self, f: &mut fmt::Formatter<W>) -> fmt::Result {
         f.write_str(self.kind.message())?;
         if let Some(ch) = self.ch {

@@ -30,7 +30,7 @@ fn is_escape(quote: u8, b: u8) -> bool
 
 // The first place past the opening quote whose byte is such a quote or a backslash. Few strings go on there.
 #[inline(always)]
-#[tactic(auto, using(crate::proofs::PlainStrings::plain_byte))]
+#[tactic(auto, using(crate::proofs::values::PlainStrings::plain_byte))]
 fn plain_end(quote: u8, z: &[u8]) -> usize
     requires { 0 < length z.now }
     ensures value { spec.string_from quote false result (drop result z.now)

@@ -352,7 +352,7 @@ fn with_type(
 
 /// The object of an expression.
 #[cycle(json)]
-#[tactic(auto, using(promql_ast::proofs::NodeParts::tree_of_call, promql_ast::proofs::NodeParts::tree_of_extension, promql_ast::proofs::NodeParts::tree_of_aggregate))]
+#[tactic(auto, using(promql_ast::proofs::nodes::NodeParts::tree_of_call, promql_ast::proofs::nodes::NodeParts::tree_of_extension, promql_ast::proofs::nodes::NodeParts::tree_of_aggregate))]
 pub(crate) fn expr_json(alloc: Global, expr: &Expr) -> Result<Value, JsonError>
     ensures ok { IfOk result (λ v. view v ≡ json_value (tree_of expr.now)) }
     ensures fits { IfOk result (λ _. json_fault (tree_of expr.now) ≡ None) }
@@ -382,7 +382,7 @@ pub(crate) fn expr_json(alloc: Global, expr: &Expr) -> Result<Value, JsonError>
 ///
 /// `NumberTooWide` where a number of milliseconds of the node itself has no form, and `Extension` where it is an extension. `Memory`
 /// where an allocation failed.
-#[tactic(auto, using(promql_ast::proofs::NodeParts::tree_of_call, promql_ast::proofs::NodeParts::tree_of_extension, promql_ast::proofs::NodeParts::tree_of_aggregate))]
+#[tactic(auto, using(promql_ast::proofs::nodes::NodeParts::tree_of_call, promql_ast::proofs::nodes::NodeParts::tree_of_extension, promql_ast::proofs::nodes::NodeParts::tree_of_aggregate))]
 pub fn members_without_nodes(alloc: Global, expr: &Expr) -> Result<Map<String, Value>, JsonError>
     ensures ok { IfOk result (λ m. members_view m.entries ≡ typed_members (tree_of expr.now)) }
     ensures fits { IfOk result (λ _. own_fault (tree_of expr.now) ≡ None) }

@@ -1,6 +1,6 @@
 use Rattle.std.proofs.Common.{arith}
 use Rattle.std.proofs.lemmas.Grind.{common_steps}
-use Rattle.promql_ast.proofs.NodeParts.{tree_of_aggregate, tree_of_call, tree_of_extension}
+use Rattle.promql_ast.proofs.nodes.NodeParts.{tree_of_aggregate, tree_of_call, tree_of_extension}
 use Rattle.promql_ast.proofs.+copy.Goals as goal
 
 pub aggregate::AggregateExpr::try_clone-returns : goal.aggregate::AggregateExpr::try_clone-returns

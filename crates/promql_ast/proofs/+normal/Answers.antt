@@ -5,9 +5,9 @@ use Rattle.promql_kind.specs.Functions.{signature_of}
 use Rattle.promql_ast.specs.Normal.{normal}
 use Rattle.promql_ast.specs.Tree.{call, extension}
 use Rattle.promql_ast.specs.View.{tree_of, trees}
-use Rattle.promql_ast.proofs.ChangedLists.{all_done, on_ok, one_more}
-use Rattle.promql_ast.proofs.NodeParts.{tree_of_call, tree_of_extension}
-use Rattle.promql_ast.proofs.NormalTrees.{normal_trees}
+use Rattle.promql_ast.proofs.nodes.ChangedLists.{all_done, on_ok, one_more}
+use Rattle.promql_ast.proofs.nodes.NodeParts.{tree_of_call, tree_of_extension}
+use Rattle.promql_ast.proofs.normal_form.NormalTrees.{normal_trees}
 use Rattle.promql_ast.proofs.+normal.Goals as goal
 
 pub normal::normalize_args-loop-i-preserved : goal.normal::normalize_args-loop-i-preserved

@@ -2,8 +2,8 @@ use Rattle.std.proofs.Common.{◌∙◌, ap, rules, slice_index_or, arith}
 use Rattle.std.specs.Box.{with_value}
 use Rattle.std.proofs.lemmas.Grind.{common_steps}
 use Rattle.promql_ast.specs.View.{tree_of}
-use Rattle.promql_ast.proofs.ExpressionLists.{trees_after_set}
-use Rattle.promql_ast.proofs.NodeParts.{tree_of_aggregate, tree_of_call, tree_of_extension}
+use Rattle.promql_ast.proofs.nodes.ExpressionLists.{trees_after_set}
+use Rattle.promql_ast.proofs.nodes.NodeParts.{tree_of_aggregate, tree_of_call, tree_of_extension}
 use Rattle.promql_ast.proofs.+prepare.Goals as goal
 
 pub prepare::prepare_args-returns-in_err-prepare_patterns : goal.prepare::prepare_args-returns-in_err-prepare_patterns

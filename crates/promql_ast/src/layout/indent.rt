@@ -22,7 +22,7 @@ pub fn deeper(level: usize) -> Result<usize, PrettyError>
 }
 
 /// Appends the indentation of a level.
-#[tactic(auto, using(crate::proofs::Indents::indent_more_after))]
+#[tactic(auto, using(crate::proofs::layouts::Indents::indent_more_after))]
 pub fn push_indent(out: &mut String, level: usize) -> Result<(), PrettyError>
     ensures ok { OnOk result (string_bytes out.new ≡ string_bytes out.old ++ indent level) }
     ensures wide { result ≡ Err PrettyError.IndentTooWide → usize_max < 2 * level }
@@ -66,7 +66,7 @@ pub fn push_display<T: Display>(value: &T, out: &mut String) -> Result<(), Prett
 }
 
 /// Appends a value's one line, indented.
-#[tactic(auto, using(crate::proofs::Pushes::two_pushes))]
+#[tactic(auto, using(crate::proofs::layouts::Pushes::two_pushes))]
 pub fn push_line<T: Display>(value: &T, level: usize, out: &mut String) -> Result<(), PrettyError>
     ensures ok { IfSome (T.output value.now) (λ t. OnOk result
         (string_bytes out.new ≡ string_bytes out.old ++ (indent level ++ t))) }
@@ -79,7 +79,7 @@ pub fn push_line<T: Display>(value: &T, level: usize, out: &mut String) -> Resul
 }
 
 /// Appends a text without the spaces in its front.
-#[tactic(auto, using(crate::proofs::Pushes::without_indent_matches))]
+#[tactic(auto, using(crate::proofs::layouts::Pushes::without_indent_matches))]
 pub fn push_without_indent(text: &str, out: &mut String) -> Result<(), AllocError>
     ensures { OnOk result (string_bytes out.new ≡ string_bytes out.old ++ without_indent text.now) }
 {
@@ -99,7 +99,7 @@ pub fn push_comma(at: usize, out: &mut String) -> Result<(), AllocError>
 }
 
 /// Appends a line feed, an indentation and a text.
-#[tactic(auto, using(crate::proofs::Pushes::two_pushes))]
+#[tactic(auto, using(crate::proofs::layouts::Pushes::two_pushes))]
 pub fn push_below(out: &mut String, level: usize, text: &str) -> Result<(), PrettyError>
     ensures ok { OnOk result (string_bytes out.new
         ≡ string_bytes out.old ++ (codes "\n" ++ (indent level ++ text.now))) }

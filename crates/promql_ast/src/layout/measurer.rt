@@ -45,7 +45,7 @@ impl Measurer {
 
     /// The bytes of the node's one line; the decisions of the node and its operands are appended.
     #[cycle(measure)]
-    #[tactic(auto, using(crate::proofs::LayoutsBy::split_decisions, crate::proofs::LayoutsBy::whole_decisions))]
+    #[tactic(auto, using(crate::proofs::layouts::LayoutsBy::split_decisions, crate::proofs::layouts::LayoutsBy::whole_decisions))]
     pub fn measure(&mut self, node: Node, max: usize) -> Result<usize, AllocError>
         ensures len { IfOk result (λ n. n ≡ printed_len (text (tree_of_node node.entry))) }
         ensures decisions { OnOk result (self.new.decisions.items

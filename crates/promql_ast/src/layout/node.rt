@@ -37,7 +37,7 @@ pub enum Node<'a> {
 
 impl Expr {
     /// The node at the root.
-    #[tactic(auto, using(crate::proofs::NodeParts::tree_of_call, crate::proofs::NodeParts::tree_of_extension, crate::proofs::NodeParts::tree_of_aggregate))]
+    #[tactic(auto, using(crate::proofs::nodes::NodeParts::tree_of_call, crate::proofs::nodes::NodeParts::tree_of_extension, crate::proofs::nodes::NodeParts::tree_of_aggregate))]
     pub fn node(&self) -> Node<'_>
         ensures { tree_of_node result ≡ tree_of self.now }
     {

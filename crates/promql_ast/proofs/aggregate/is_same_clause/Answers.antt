@@ -2,7 +2,7 @@ use Rattle.std.proofs.Common.{◌∙◌}
 use Rattle.promql_kind.specs.ModifierViews.{clause_of}
 use Rattle.promql_kind.proofs.Equal.{clause_Decides}
 use Rattle.promql_kind.proofs.SameModifiersDecide.{clause_eq-Decides}
-use Rattle.promql_ast.proofs.SameTests.{same_test}
+use Rattle.promql_ast.proofs.equality.SameTests.{same_test}
 use Rattle.promql_ast.proofs.aggregate.is_same_clause.Goals as goal
 
 pub returns : goal.returns

@@ -2,7 +2,7 @@ use Rattle.std.proofs.Common.{◌∙◌}
 use Rattle.promql_kind.specs.ModifierViews.{matching_of}
 use Rattle.promql_kind.proofs.Equal.{matching_Decides}
 use Rattle.promql_kind.proofs.SameModifiersDecide.{matching_eq-Decides}
-use Rattle.promql_ast.proofs.SameTests.{same_test}
+use Rattle.promql_ast.proofs.equality.SameTests.{same_test}
 use Rattle.promql_ast.proofs.binary.is_same_matching.Goals as goal
 
 pub returns : goal.returns

@@ -2,7 +2,7 @@ use Rattle.std.proofs.Common.{◌∙◌, ap, drop}
 use Rattle.std.proofs.lemmas.List.{drop_all}
 use Rattle.promql_ast.specs.View.{trees_of}
 use Rattle.promql_ast.specs.check.CallChecks.{types_fault}
-use Rattle.promql_ast.proofs.Typing.{typed_none}
+use Rattle.promql_ast.proofs.checking.Typing.{typed_none}
 use Rattle.promql_ast.proofs.check_call.check_types.Goals as goal
 
 pub returns : goal.returns

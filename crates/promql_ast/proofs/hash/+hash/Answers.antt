@@ -1,7 +1,7 @@
 use Rattle.std.proofs.Common.{arith}
 use Rattle.promql_ast.specs.View.{tree_of}
-use Rattle.promql_ast.proofs.FedTrees.{fed_all}
-use Rattle.promql_ast.proofs.NodeParts.{tree_of_call, tree_of_extension}
+use Rattle.promql_ast.proofs.equality.FedTrees.{fed_all}
+use Rattle.promql_ast.proofs.nodes.NodeParts.{tree_of_call, tree_of_extension}
 use Rattle.promql_ast.proofs.hash.+hash.Goals as goal
 
 pub hash_args-returns : goal.hash_args-returns

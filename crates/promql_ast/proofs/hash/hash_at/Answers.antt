@@ -1,6 +1,6 @@
 use Rattle.std.proofs.Common.{refl}
 use Rattle.std.specs.Hash.{fed_along}
-use Rattle.promql_label.proofs.FedLists.{option_fed}
+use Rattle.promql_label.proofs.equality.FedLists.{option_fed}
 use Rattle.promql_ast.specs.Shifts.{moment_of}
 use Rattle.promql_ast.specs.TreeFeed.{moment_feed}
 use Rattle.promql_ast.proofs.hash.hash_at.Goals as goal

@@ -1,5 +1,5 @@
 use Rattle.std.specs.Hash.{fed_along}
-use Rattle.promql_label.proofs.FedLists.{option_fed}
+use Rattle.promql_label.proofs.equality.FedLists.{option_fed}
 use Rattle.promql_kind.proofs.FedModifiers.{matching_fed}
 use Rattle.promql_kind.specs.ModifierFeeds.{matching_feed}
 use Rattle.promql_kind.specs.ModifierViews.{matching_of}

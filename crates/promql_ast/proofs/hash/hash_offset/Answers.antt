@@ -1,6 +1,6 @@
 use Rattle.std.proofs.Common.{refl}
 use Rattle.std.specs.Hash.{fed_along}
-use Rattle.promql_label.proofs.FedLists.{option_fed}
+use Rattle.promql_label.proofs.equality.FedLists.{option_fed}
 use Rattle.promql_ast.specs.Shifts.{shift_of}
 use Rattle.promql_ast.specs.TreeFeed.{shift_feed}
 use Rattle.promql_ast.proofs.hash.hash_offset.Goals as goal

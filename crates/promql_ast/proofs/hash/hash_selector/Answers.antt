@@ -2,8 +2,8 @@ use Rattle.std.proofs.Common.{◌++◌, option_map, refl, string_bytes}
 use Rattle.std.specs.Hash.{fed_along, fed_then, option, str}
 use Rattle.promql_label.specs.MatcherFeeds.{matchers_feed}
 use Rattle.promql_label.specs.MatcherViews.{plain_matchers_of}
-use Rattle.promql_label.proofs.FedLists.{option_fed}
-use Rattle.promql_label.proofs.FedMatchers.{matchers_fed}
+use Rattle.promql_label.proofs.equality.FedLists.{option_fed}
+use Rattle.promql_label.proofs.equality.FedMatchers.{matchers_fed}
 use Rattle.promql_ast.specs.Shifts.{moment_of, shift_of}
 use Rattle.promql_ast.specs.TreeFeed.{moment_feed, shift_feed}
 use Rattle.promql_ast.proofs.hash.hash_selector.Goals as goal

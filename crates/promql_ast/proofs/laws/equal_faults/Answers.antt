@@ -1,4 +1,4 @@
-use Rattle.promql_ast.proofs.SameFaults.{context_Decides, node_Decides, fault_Decides, error_Decides, at_Decides}
+use Rattle.promql_ast.proofs.equality.SameFaults.{context_Decides, node_Decides, fault_Decides, error_Decides, at_Decides}
 use Rattle.promql_ast.proofs.laws.equal_faults.Goals as goal
 
 pub returns : goal.returns

@@ -1,7 +1,7 @@
 use Rattle.std.proofs.Common.{string_bytes}
 use Rattle.std.proofs.lemmas.Slice.Eq.{bytes_eq-Decides}
 use Rattle.promql_kind.proofs.Equal.{number_Decides}
-use Rattle.promql_ast.proofs.SameModes.{mode_Decides}
+use Rattle.promql_ast.proofs.equality.SameModes.{mode_Decides}
 use Rattle.promql_ast.proofs.laws.equal_literals.Goals as goal
 
 pub returns : goal.returns

@@ -1,5 +1,5 @@
 use Rattle.std.proofs.Common.{refl}
-use Rattle.promql_ast.proofs.FedModes.{mode_fed}
+use Rattle.promql_ast.proofs.equality.FedModes.{mode_fed}
 use Rattle.promql_ast.proofs.laws.hash_inputs.Goals as goal
 
 pub returns : goal.returns

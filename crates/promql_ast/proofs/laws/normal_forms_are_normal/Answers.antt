@@ -1,4 +1,4 @@
-use Rattle.promql_ast.proofs.NormalForms.{normal_twice}
+use Rattle.promql_ast.proofs.normal_form.NormalForms.{normal_twice}
 use Rattle.promql_ast.proofs.laws.normal_forms_are_normal.Goals as goal
 
 pub returns : goal.returns

@@ -1,4 +1,4 @@
-use Rattle.promql_ast.proofs.PrintedMoments.{size_reads, time_reads, time_text_split}
+use Rattle.promql_ast.proofs.normal_form.PrintedMoments.{size_reads, time_reads, time_text_split}
 use Rattle.promql_ast.proofs.laws.printed_times_read_back.Goals as goal
 
 pub returns : goal.returns

@@ -1,5 +1,5 @@
 use Rattle.std.proofs.Common.{arith}
-use Rattle.promql_text.proofs.AllOptions.{styled}
+use Rattle.promql_text.proofs.writing.AllOptions.{styled}
 use Rattle.promql_ast.proofs.matrix_selector.write_range.Goals as goal
 
 pub returns : goal.returns

@@ -1,5 +1,5 @@
 use Rattle.std.proofs.Common.{arith}
-use Rattle.promql_text.proofs.AllOptions.{styled}
+use Rattle.promql_text.proofs.writing.AllOptions.{styled}
 use Rattle.promql_ast.proofs.offset.write_offset.Goals as goal
 
 pub returns-in_ok-write_str-in-Some : goal.returns-in_ok-write_str-in-Some

@@ -1,4 +1,4 @@
-use Rattle.promql_ast.proofs.Fallbacks.{minus_other}
+use Rattle.promql_ast.proofs.checking.Fallbacks.{minus_other}
 use Rattle.promql_ast.proofs.unary.check_operand.Goals as goal
 
 pub returns-in_default : goal.returns-in_default

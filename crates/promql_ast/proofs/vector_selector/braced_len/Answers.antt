@@ -1,6 +1,6 @@
 use Rattle.std.proofs.Common.{◌∙◌, sym}
 use Rattle.promql_label.specs.MatcherViews.{plain_matchers_of}
-use Rattle.promql_ast.proofs.BracedLens.{braced_len_is}
+use Rattle.promql_ast.proofs.layouts.BracedLens.{braced_len_is}
 use Rattle.promql_ast.proofs.vector_selector.braced_len.Goals as goal
 
 pub returns-else-is_blank : goal.returns-else-is_blank

@@ -1,8 +1,8 @@
 use Rattle.std.proofs.Common.{◌∙◌}
 use Rattle.promql_label.specs.MatcherViews.{plain_matchers_of}
-use Rattle.promql_label.proofs.SameMatchers.{list_Decides}
+use Rattle.promql_label.proofs.equality.SameMatchers.{list_Decides}
 use Rattle.promql_ast.specs.SameLaws.{matchers_eq-Decides}
-use Rattle.promql_ast.proofs.SameTests.{same_test}
+use Rattle.promql_ast.proofs.equality.SameTests.{same_test}
 use Rattle.promql_ast.proofs.vector_selector.is_same_matchers.Goals as goal
 
 pub returns : goal.returns

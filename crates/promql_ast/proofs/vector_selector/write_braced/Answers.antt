@@ -1,7 +1,7 @@
 use Rattle.std.proofs.Common.{refl, sym, ◌∙◌}
 use Rattle.std.proofs.Output.{has_written_styled_append, has_written_styled_of_eq}
 use Rattle.promql_label.specs.MatcherViews.{plain_matchers_of}
-use Rattle.promql_ast.proofs.Blank.{braced_text}
+use Rattle.promql_ast.proofs.normal_form.Blank.{braced_text}
 use Rattle.promql_ast.proofs.vector_selector.write_braced.Goals as goal
 
 pub returns-in_ok-fmt : goal.returns-in_ok-fmt

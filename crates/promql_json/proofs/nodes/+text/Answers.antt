@@ -6,7 +6,7 @@ use Rattle.promql_kind.specs.ModifierViews.{matching_of}
 use Rattle.promql_ast.specs.OptionalModifiers.{returns_bool}
 use Rattle.promql_ast.specs.View.{tree_of}
 use Rattle.promql_ast.specs.declared.expr.Expr.{the_lemmas}
-use Rattle.promql_ast.proofs.NodeParts.{tree_of_call}
+use Rattle.promql_ast.proofs.nodes.NodeParts.{tree_of_call}
 use Rattle.promql_json.specs.JsonFaults.{json_fault}
 use Rattle.promql_json.specs.JsonParts.{matching_json, or_null, token_json}
 use Rattle.promql_json.specs.JsonTokens.{member, tree_tokens}

@@ -1,6 +1,6 @@
 use Rattle.std.proofs.Common.{◌∙◌, ap, length-set, map, string_bytes, sym, take_all, arith}
 use Rattle.promql_label.specs.LabelRows.{label_texts}
-use Rattle.promql_label.proofs.LabelRows.{text_more}
+use Rattle.promql_label.proofs.order.LabelRows.{text_more}
 use Rattle.promql_label.proofs.common_labels.fill.Goals as goal
 
 pub texts-preserved : goal.texts-preserved

@@ -1,7 +1,7 @@
 use Rattle.std.proofs.Common.{◌≡◌, ◌+◌, ◌∙◌, ◌&&◌, ◌++◌, ◌∷◌, [], if◌then◌else◌, ap, map, not, string_bytes, sym, take, take_all, arith, rules}
 use Rattle.promql_label.specs.LabelSets.{has_text}
 use Rattle.promql_label.specs.Labels.{common, is_among}
-use Rattle.promql_label.proofs.LabelSets.{and-true, common_taken, next_label, text_taken}
+use Rattle.promql_label.proofs.label_lists.LabelSets.{and-true, common_taken, next_label, text_taken}
 use Rattle.promql_label.proofs.common_labels.find_common.Goals as goal
 
 pub search-init : goal.search-init

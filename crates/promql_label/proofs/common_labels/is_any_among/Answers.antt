@@ -1,5 +1,5 @@
 use Rattle.std.proofs.Common.{◌∙◌, eqb-true, length, map, string_bytes, sym}
-use Rattle.promql_label.proofs.LabelRows.{nothing_met, part_met, part_missed}
+use Rattle.promql_label.proofs.order.LabelRows.{nothing_met, part_met, part_missed}
 use Rattle.promql_label.proofs.common_labels.is_any_among.Goals as goal
 
 pub returns-then-is_any_in_part : goal.returns-then-is_any_in_part

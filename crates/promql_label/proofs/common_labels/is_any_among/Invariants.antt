@@ -1,5 +1,5 @@
 use Rattle.std.proofs.Common.{◌≡◌, length, map, string_bytes}
-use Rattle.promql_label.proofs.LabelRows.{meets}
+use Rattle.promql_label.proofs.order.LabelRows.{meets}
 use Rattle.promql_label.proofs.common_labels.is_any_among.Given as goal
 
 -- one of the labels is among the others exactly if one is among the rest

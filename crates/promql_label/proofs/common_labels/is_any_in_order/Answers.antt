@@ -1,8 +1,8 @@
 use Rattle.std.proofs.Common.{◌≡◌, ◌∙◌, ap, string_bytes, sym, arith}
 use Rattle.promql_label.specs.LabelRows.{label_texts}
 use Rattle.promql_label.specs.Labels.{is_among}
-use Rattle.promql_label.proofs.LabelRows.{label_met, label_missed, labels_end}
-use Rattle.promql_label.proofs.PrintedTexts.{map_drop_all, map_drop_step}
+use Rattle.promql_label.proofs.order.LabelRows.{label_met, label_missed, labels_end}
+use Rattle.promql_label.proofs.order.PrintedTexts.{map_drop_all, map_drop_step}
 use Rattle.promql_label.proofs.common_labels.is_any_in_order.Goals as goal
 
 pub returns-then-is_in_row : goal.returns-then-is_in_row

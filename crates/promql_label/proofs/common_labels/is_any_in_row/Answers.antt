@@ -1,5 +1,5 @@
 use Rattle.std.proofs.Common.{◌∙◌, map, string_bytes}
-use Rattle.promql_label.proofs.LabelRows.{sorted_meets}
+use Rattle.promql_label.proofs.order.LabelRows.{sorted_meets}
 use Rattle.promql_label.proofs.common_labels.is_any_in_row.Goals as goal
 
 pub returns : goal.returns

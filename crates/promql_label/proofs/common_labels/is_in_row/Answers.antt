@@ -2,7 +2,7 @@ use Rattle.std.proofs.Common.{◌∙◌, Bor, rules}
 use Rattle.std.proofs.lemmas.Fn.{always_returns_same}
 use Rattle.promql_text.specs.Texts.{Text}
 use Rattle.promql_label.specs.SortedTexts.{text_order}
-use Rattle.promql_label.proofs.LabelRows.{found_in_row}
+use Rattle.promql_label.proofs.order.LabelRows.{found_in_row}
 use Rattle.promql_label.proofs.common_labels.is_in_row.Goals as goal
 
 pub returns : goal.returns

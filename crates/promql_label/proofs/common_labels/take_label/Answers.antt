@@ -1,7 +1,7 @@
 use Rattle.std.proofs.Common.{◌∙◌, false}
 use Rattle.std.specs.Str.{bytes_eq}
 use Rattle.promql_label.specs.LabelSets.{has_text}
-use Rattle.promql_label.proofs.LabelSets.{set_after, without}
+use Rattle.promql_label.proofs.label_lists.LabelSets.{set_after, without}
 use Rattle.promql_label.proofs.common_labels.take_label.Goals as goal
 
 pub returns-in_ok-push-clause-left : goal.returns-in_ok-push-clause-left

@@ -1,7 +1,7 @@
 use Rattle.std.proofs.Common.{◌≡◌, ◌+◌, ◌∙◌, ◌++◌, ◌∷◌, [], ap, map, string_bytes, sym, take, take_all, true, arith}
 use Rattle.promql_label.specs.LabelSets.{has_text}
 use Rattle.promql_label.specs.Labels.{is_among}
-use Rattle.promql_label.proofs.LabelSets.{empty_set, next_label, set_after, text_put}
+use Rattle.promql_label.proofs.label_lists.LabelSets.{empty_set, next_label, set_after, text_put}
 use Rattle.promql_label.proofs.common_labels.to_set.Goals as goal
 
 pub texts-init : goal.texts-init

@@ -4,7 +4,7 @@ use Rattle.regex_hir.specs.Meaning.{alt_all, cat_all, meaning}
 use Rattle.regex_hir.specs.Re.{Re}
 use Rattle.regex_hir.specs.declared.hir.Hir.{Hir}
 use Rattle.regex_hir.proofs.MeaningLemmas.{meaning-Empty, meaning-Literal, meaning-Bytes, meaning-Chars, meaning-Look, meaning-Repetition, meaning-Capture}
-use Rattle.promql_label.proofs.EmptyText.{byte_takes, char_takes, empty_takes, first_fails, first_goes_on, first_is_left, first_works, group_takes, literal_takes, look_takes, no_branch_takes, no_repeat_takes, repeat_takes, takes_nothing}
+use Rattle.promql_label.proofs.regex_answers.EmptyText.{byte_takes, char_takes, empty_takes, first_fails, first_goes_on, first_is_left, first_works, group_takes, literal_takes, look_takes, no_branch_takes, no_repeat_takes, repeat_takes, takes_nothing}
 use Rattle.promql_label.proofs.empty_text.+matches_empty.Goals as goal
 
 pub matches_empty-returns-in-Empty : goal.matches_empty-returns-in-Empty

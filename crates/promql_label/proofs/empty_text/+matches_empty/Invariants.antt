@@ -1,7 +1,7 @@
 use Rattle.std.proofs.Common.{◌≡◌, drop, map}
 use Rattle.regex.specs.Patterns.{alt_all, cat_all}
 use Rattle.regex_hir.specs.Meaning.{meaning}
-use Rattle.promql_label.proofs.EmptyText.{takes_nothing}
+use Rattle.promql_label.proofs.regex_answers.EmptyText.{takes_nothing}
 use Rattle.promql_label.proofs.empty_text.+matches_empty.Given as goal
 
 -- the whole takes what is left of it

@@ -1,5 +1,5 @@
 use Rattle.std.proofs.Common.{◌∙◌, sym}
-use Rattle.promql_label.proofs.EmptyText.{holds_nowhere, holds_otherwise, no_word_beside}
+use Rattle.promql_label.proofs.regex_answers.EmptyText.{holds_nowhere, holds_otherwise, no_word_beside}
 use Rattle.promql_label.proofs.empty_text.holds.Goals as goal
 
 pub returns-in-WordAscii : goal.returns-in-WordAscii

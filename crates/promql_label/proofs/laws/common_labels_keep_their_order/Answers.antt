@@ -1,4 +1,4 @@
-use Rattle.promql_label.proofs.CommonLabels.{common-order}
+use Rattle.promql_label.proofs.label_lists.CommonLabels.{common-order}
 use Rattle.promql_label.proofs.laws.common_labels_keep_their_order.Goals as goal
 
 pub returns : goal.returns

@@ -1,4 +1,4 @@
-use Rattle.promql_label.proofs.RepeatCounts.{opens_count_of_relation, count_of}
+use Rattle.promql_label.proofs.pattern_weight.RepeatCounts.{opens_count_of_relation, count_of}
 use Rattle.promql_label.proofs.laws.counts.Goals as goal
 
 pub returns : goal.returns

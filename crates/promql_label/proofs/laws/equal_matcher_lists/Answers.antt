@@ -1,4 +1,4 @@
-use Rattle.promql_label.proofs.SameMatchers.{list_Decides}
+use Rattle.promql_label.proofs.equality.SameMatchers.{list_Decides}
 use Rattle.promql_label.proofs.laws.equal_matcher_lists.Goals as goal
 
 pub returns : goal.returns

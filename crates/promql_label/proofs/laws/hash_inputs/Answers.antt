@@ -1,4 +1,4 @@
-use Rattle.promql_label.proofs.FedMatchers.{labels_fed, matcher_fed, matchers_fed, operator_fed}
+use Rattle.promql_label.proofs.equality.FedMatchers.{labels_fed, matcher_fed, matchers_fed, operator_fed}
 use Rattle.promql_label.proofs.laws.hash_inputs.Goals as goal
 
 pub returns : goal.returns

@@ -1,4 +1,4 @@
-use Rattle.promql_label.proofs.CommonLabels.{common-Contains}
+use Rattle.promql_label.proofs.label_lists.CommonLabels.{common-Contains}
 use Rattle.promql_label.proofs.laws.intersections.Goals as goal
 
 pub returns : goal.returns

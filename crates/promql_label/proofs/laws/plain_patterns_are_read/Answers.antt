@@ -1,4 +1,4 @@
-use Rattle.promql_label.proofs.PlainPatternsRead.{plain_pair_is_read}
+use Rattle.promql_label.proofs.plain_patterns.PlainPatternsRead.{plain_pair_is_read}
 use Rattle.promql_label.proofs.laws.plain_patterns_are_read.Goals as goal
 
 pub returns : goal.returns

@@ -1,4 +1,4 @@
-use Rattle.promql_label.proofs.ReadLabels.{label_again, name_again, no_number}
+use Rattle.promql_label.proofs.readback.ReadLabels.{label_again, name_again, no_number}
 use Rattle.promql_label.proofs.laws.printed_labels_read_back.Goals as goal
 
 pub returns : goal.returns

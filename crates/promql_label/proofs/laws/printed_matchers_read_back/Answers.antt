@@ -1,7 +1,7 @@
-use Rattle.promql_label.proofs.WorkedMatchers.{worked_lists}
-use Rattle.promql_label.proofs.PrintedTokens.{matchers_read, texts_sorted}
-use Rattle.promql_label.proofs.MatchersReadBack.{alike, matchers_again, parts_built}
-use Rattle.promql_label.proofs.ReadTokens.{nothing_else}
+use Rattle.promql_label.proofs.readback.WorkedMatchers.{worked_lists}
+use Rattle.promql_label.proofs.readback.PrintedTokens.{matchers_read, texts_sorted}
+use Rattle.promql_label.proofs.readback.MatchersReadBack.{alike, matchers_again, parts_built}
+use Rattle.promql_label.proofs.readback.ReadTokens.{nothing_else}
 use Rattle.promql_label.proofs.laws.printed_matchers_read_back.Goals as goal
 
 pub returns : goal.returns

@@ -1,7 +1,7 @@
 use Rattle.std.proofs.Common.{◌≡◌, ◌++◌, map, filter}
 use Rattle.promql_label.specs.PlainMatchers.{is_of}
 use Rattle.promql_label.specs.MatcherViews.{plain_matcher_of}
-use Rattle.promql_label.proofs.MatcherSearch.{rest_from}
+use Rattle.promql_label.proofs.label_lists.MatcherSearch.{rest_from}
 use Rattle.promql_label.proofs.matchers.copy_named.Given as goal
 
 abbrev pub invariant-loop-matcher : goal.invariant-loop-matcher

@@ -2,7 +2,7 @@ use Rattle.std.proofs.Common.{◌≡◌, false, [], map}
 use Rattle.std.specs.List.{list_all}
 use Rattle.promql_label.specs.PlainMatchers.{holds}
 use Rattle.promql_label.specs.MatcherViews.{plain_matcher_of}
-use Rattle.promql_label.proofs.MatcherSearch.{rest_from}
+use Rattle.promql_label.proofs.label_lists.MatcherSearch.{rest_from}
 use Rattle.promql_label.proofs.matchers.is_one_filled.Given as goal
 
 abbrev pub invariant-loop-matcher : goal.invariant-loop-matcher

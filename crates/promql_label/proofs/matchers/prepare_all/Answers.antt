@@ -1,6 +1,6 @@
 use Rattle.std.proofs.Common.{◌≡◌, ◌<◌, ◌∙◌, length, rules}
 use Rattle.promql_label.specs.MatcherViews.{plain_matcher_of}
-use Rattle.promql_label.proofs.PlacesSet.{map_after_set}
+use Rattle.promql_label.proofs.label_lists.PlacesSet.{map_after_set}
 use Rattle.promql_label.proofs.matchers.prepare_all.Goals as goal
 
 pub returns-in_err-prepare : goal.returns-in_err-prepare

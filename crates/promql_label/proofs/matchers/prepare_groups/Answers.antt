@@ -3,7 +3,7 @@ use Rattle.std.proofs.lemmas.List.{length-map, with_items_is}
 use Rattle.std.specs.Vec.{with_items}
 use Rattle.promql_label.specs.MatcherViews.{plain_matcher_of}
 use Rattle.promql_label.specs.declared.matcher.Matcher.{Matcher}
-use Rattle.promql_label.proofs.PlacesSet.{map_after_set}
+use Rattle.promql_label.proofs.label_lists.PlacesSet.{map_after_set}
 use Rattle.promql_label.proofs.matchers.prepare_groups.Goals as goal
 
 -- a group whose matchers look the same is filled with as many

@@ -3,7 +3,7 @@ use Rattle.std.proofs.lemmas.List.{drop_all}
 use Rattle.std.proofs.Math.Nat.{mul-one, one-mul}
 use Rattle.promql_text.specs.Texts.{Text}
 use Rattle.promql_label.specs.PatternMeasure.{group_repeats, item_repeats}
-use Rattle.promql_label.proofs.PatternMeasures.{capped_factors, first_and_rest, group_passes, group_step, some_items}
+use Rattle.promql_label.proofs.pattern_weight.PatternMeasures.{capped_factors, first_and_rest, group_passes, group_step, some_items}
 use Rattle.promql_label.proofs.measure.counted.Goals as goal
 
 pub loop-rest-init : goal.loop-rest-init

@@ -4,7 +4,7 @@ use Rattle.std.proofs.lemmas.Grind.{common_steps}
 use Rattle.std.proofs.lemmas.List.{drop_more}
 use Rattle.promql_text.specs.Texts.{Text}
 use Rattle.promql_label.specs.PatternMeasure as spec
-use Rattle.promql_label.proofs.PatternMeasures.{comma_step, digit_step, other_byte}
+use Rattle.promql_label.proofs.pattern_weight.PatternMeasures.{comma_step, digit_step, other_byte}
 use Rattle.promql_label.proofs.measure.greatest.Goals as goal
 use Rattle.promql_label.proofs.measure.greatest.Goals.{in-44, in_default, in_default+else-is_ascii_digit}
 

@@ -1,6 +1,6 @@
 use Rattle.std.proofs.Common.{◌∙◌, ◌*◌, ◌-◌, ◌^◌, ap, ap₂, min}
 use Rattle.promql_label.specs.PatternMeasure as spec
-use Rattle.promql_label.proofs.PatternMeasures.{capped_factors}
+use Rattle.promql_label.proofs.pattern_weight.PatternMeasures.{capped_factors}
 use Rattle.promql_label.proofs.measure.pattern_measure.Goals as goal
 
 pub returns : goal.returns

@@ -3,7 +3,7 @@ use Rattle.std.proofs.lemmas.List.{drop_all, drop_more}
 use Rattle.std.proofs.Math.Nat.{mul-one}
 use Rattle.std.specs.Char.{is_ascii_digit}
 use Rattle.promql_text.specs.Texts.{Text}
-use Rattle.promql_label.proofs.PatternMeasures.{digit_tens, other_tens}
+use Rattle.promql_label.proofs.pattern_weight.PatternMeasures.{digit_tens, other_tens}
 use Rattle.promql_label.proofs.measure.ten_for_digits.Goals as goal
 use Rattle.promql_label.proofs.measure.ten_for_digits.Goals.{then-is_ascii_digit, else-is_ascii_digit}
 

@@ -1,8 +1,8 @@
 use Rattle.std.proofs.Common.{◌∙◌, map, option_map, string_bytes, subst, sym}
 use Rattle.regex.specs.Patterns.{Reads}
 use Rattle.regex_hir.specs.Meaning.{meaning}
-use Rattle.promql_label.proofs.EmptyText.{found_in_nothing}
-use Rattle.promql_label.proofs.Finding.{nothing_of_read}
+use Rattle.promql_label.proofs.regex_answers.EmptyText.{found_in_nothing}
+use Rattle.promql_label.proofs.regex_answers.Finding.{nothing_of_read}
 use Rattle.promql_label.proofs.pattern.finds_nothing.Goals as goal
 
 pub returns-in-Ok : goal.returns-in-Ok

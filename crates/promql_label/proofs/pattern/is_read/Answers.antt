@@ -1,6 +1,6 @@
 use Rattle.std.proofs.Common.{sym, subst, map, option_map, string_bytes}
 use Rattle.regex.specs.Patterns.{Reads, Refuses}
-use Rattle.promql_label.proofs.Reading.{read_within_limit, rejected_by_grammar}
+use Rattle.promql_label.proofs.regex_answers.Reading.{read_within_limit, rejected_by_grammar}
 use Rattle.promql_label.proofs.pattern.is_read.Goals as goal
 
 pub returns-in-Ok : goal.returns-in-Ok

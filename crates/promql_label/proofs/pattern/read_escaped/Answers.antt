@@ -1,5 +1,5 @@
 use Rattle.std.proofs.Common.{◌∙◌}
-use Rattle.promql_label.proofs.Reading.{read_escaped, rejected_twice}
+use Rattle.promql_label.proofs.regex_answers.Reading.{read_escaped, rejected_twice}
 use Rattle.promql_label.proofs.pattern.read_escaped.Goals as goal
 
 pub returns-in-Some-clause-built : goal.returns-in-Some-clause-built

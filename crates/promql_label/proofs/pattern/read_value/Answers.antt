@@ -1,4 +1,4 @@
-use Rattle.promql_label.proofs.Reading.{read_as_it_is}
+use Rattle.promql_label.proofs.regex_answers.Reading.{read_as_it_is}
 use Rattle.promql_label.proofs.pattern.read_value.Goals as goal
 
 pub returns-in-Some-clause-built : goal.returns-in-Some-clause-built

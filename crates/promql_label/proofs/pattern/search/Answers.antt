@@ -1,4 +1,4 @@
-use Rattle.promql_label.proofs.Finding.{finds_of_read}
+use Rattle.promql_label.proofs.regex_answers.Finding.{finds_of_read}
 use Rattle.promql_label.proofs.pattern.search.Goals as goal
 
 pub returns : goal.returns

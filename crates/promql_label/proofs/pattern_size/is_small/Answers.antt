@@ -2,8 +2,8 @@ use Rattle.std.proofs.Common.{◌≡◌, ℕ, ◌+◌, ◌∷◌, [], ◌∙◌,
 use Rattle.std.proofs.lemmas.List.{drop_all, drop_more}
 use Rattle.promql_text.specs.Texts.{Text}
 use Rattle.promql_label.specs.PlainPatterns.{can_end, is_plain, is_plain_from}
-use Rattle.promql_label.proofs.PatternSizes.{long_is_not_small, plain_step, repeats_step}
-use Rattle.promql_label.proofs.PlainPatternsRead.{plain_pair_is_read}
+use Rattle.promql_label.proofs.pattern_weight.PatternSizes.{long_is_not_small, plain_step, repeats_step}
+use Rattle.promql_label.proofs.plain_patterns.PlainPatternsRead.{plain_pair_is_read}
 use Rattle.promql_label.proofs.pattern_size.is_small.Goals as goal
 
 pub returns-then-value-ge-MAX_SMALL-clause-small : goal.returns-then-value-ge-MAX_SMALL-clause-small

@@ -1,7 +1,7 @@
 use Rattle.std.proofs.Common.{◌≡◌, ◌∙◌, [], drop, ap, sym, arith}
 use Rattle.std.proofs.lemmas.List.{drop_all}
 use Rattle.promql_label.specs.PlainPatterns as spec
-use Rattle.promql_label.proofs.PlainPatternsRead.{plain_pair_is_read}
+use Rattle.promql_label.proofs.plain_patterns.PlainPatternsRead.{plain_pair_is_read}
 use Rattle.promql_label.proofs.plain.is_plain.Goals as goal
 
 pub returns-clause-read : goal.returns-clause-read

@@ -1,8 +1,8 @@
 use Rattle.std.proofs.Common.{◌∙◌, codes, map, ap, Vec, Global}
 use Rattle.promql_text.specs.Texts.{Text, joined_text}
 use Rattle.promql_text.specs.PrintedLen.{printed_len}
-use Rattle.promql_text.proofs.Joins.{join_end}
-use Rattle.promql_text.proofs.PrintedLengths.{joined_len_next}
+use Rattle.promql_text.proofs.writing.Joins.{join_end}
+use Rattle.promql_text.proofs.writing.PrintedLengths.{joined_len_next}
 use Rattle.promql_label.specs.PlainMatchers.{group_text, matcher_text}
 use Rattle.promql_label.specs.MatcherViews.{plain_matcher_of}
 use Rattle.promql_label.specs.declared.matcher.Matcher.{Matcher}

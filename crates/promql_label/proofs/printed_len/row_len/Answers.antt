@@ -1,7 +1,7 @@
 use Rattle.std.proofs.Common.{◌∙◌, ap}
 use Rattle.promql_text.specs.PrintedLen.{printed_len}
-use Rattle.promql_text.proofs.Joins.{join_end_of}
-use Rattle.promql_text.proofs.PrintedLengths.{joined_len_next}
+use Rattle.promql_text.proofs.writing.Joins.{join_end_of}
+use Rattle.promql_text.proofs.writing.PrintedLengths.{joined_len_next}
 use Rattle.promql_label.specs.NextText.{text_of}
 use Rattle.promql_label.specs.PlainMatchers.{matcher_text}
 use Rattle.promql_label.specs.MatcherViews.{plain_matcher_of}

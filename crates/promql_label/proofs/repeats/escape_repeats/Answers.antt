@@ -1,7 +1,7 @@
 use Rattle.std.proofs.Common.{arith}
 use Rattle.std.specs.Str.Iter.{chars_rest}
 use Rattle.std.proofs.lemmas.Grind.{common_steps}
-use Rattle.promql_label.proofs.Escaping.{escaped_char, from_start}
+use Rattle.promql_label.proofs.regex_answers.Escaping.{escaped_char, from_start}
 use Rattle.promql_label.proofs.repeats.escape_repeats.Goals as goal
 
 pub loop-c-preserved-then-not-taken-2 : goal.loop-c-preserved-then-not-taken-2

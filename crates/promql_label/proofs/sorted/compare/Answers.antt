@@ -3,7 +3,7 @@ use Rattle.std.proofs.lemmas.Slice.Eq.{bytes_eq-Decides}
 use Rattle.promql_label.specs.MatcherBytes.{test_text}
 use Rattle.promql_label.specs.PlainMatchers.{name_text}
 use Rattle.promql_label.specs.SortedTexts.{text_order}
-use Rattle.promql_label.proofs.TextOrders.{after_same}
+use Rattle.promql_label.proofs.order.TextOrders.{after_same}
 use Rattle.promql_label.proofs.sorted.compare.Goals as goal
 
 pub returns-then-eq : goal.returns-then-eq

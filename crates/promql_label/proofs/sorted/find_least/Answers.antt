@@ -3,8 +3,8 @@ use Rattle.std.specs.List.{filter}
 use Rattle.std.proofs.lemmas.List.{map_more}
 use Rattle.promql_label.specs.NextText.{Rises, is_above, row_texts, text_of, text_of_some}
 use Rattle.promql_label.specs.SortedTexts.{insert_text, sorted_texts}
-use Rattle.promql_label.proofs.RisingTexts.{sorted_rises}
-use Rattle.promql_label.proofs.TextRows.{few_above, one_above, one_left_out, row_more, take_rises}
+use Rattle.promql_label.proofs.order.RisingTexts.{sorted_rises}
+use Rattle.promql_label.proofs.order.TextRows.{few_above, one_above, one_left_out, row_more, take_rises}
 use Rattle.promql_label.proofs.sorted.find_least.Goals.{then-is_above, else-is_above}
 use Rattle.promql_label.proofs.sorted.find_least.Goals as goal
 

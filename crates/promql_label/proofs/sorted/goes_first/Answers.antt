@@ -1,7 +1,7 @@
 use Rattle.std.proofs.Common.{◌≡◌, ◌↔◌, ◌∙◌, not, IsTrue, Some, ap, subst, sym, rules}
 use Rattle.std.specs.Ordering.{is_lt}
 use Rattle.promql_label.specs.NextText.{Follows, is_less, row_texts, text_of}
-use Rattle.promql_label.proofs.TextRows.{first_goes, none_goes}
+use Rattle.promql_label.proofs.order.TextRows.{first_goes, none_goes}
 use Rattle.promql_label.proofs.sorted.goes_first.Goals as goal
 
 pub returns-in-Some : goal.returns-in-Some

@@ -1,6 +1,6 @@
 use Rattle.std.proofs.Common.{rules, sym}
 use Rattle.promql_label.specs.NextText.{text_of, text_of_some}
-use Rattle.promql_label.proofs.TextRows.{last_is}
+use Rattle.promql_label.proofs.order.TextRows.{last_is}
 use Rattle.promql_label.proofs.sorted.greatest_of.Goals as goal
 
 pub returns-in-Some : goal.returns-in-Some

@@ -1,7 +1,7 @@
 use Rattle.std.proofs.Common.{◌∙◌, ◌++◌, ◌+◌, ap, drop, length, sym, take, arith}
 use Rattle.std.proofs.lemmas.List.{length-take-le}
 use Rattle.promql_label.specs.NextText.{text_of}
-use Rattle.promql_label.proofs.TextRows.{row_holds}
+use Rattle.promql_label.proofs.order.TextRows.{row_holds}
 use Rattle.promql_label.proofs.sorted.hold.Goals as goal
 
 pub returns-clause-held : goal.returns-clause-held

@@ -1,6 +1,6 @@
 use Rattle.std.proofs.Common.{sym, ◌∙◌, arith}
 use Rattle.promql_label.specs.NextText.{text_of, text_of_some}
-use Rattle.promql_label.proofs.PrintedTexts.{map_drop_all, map_drop_step, not_rising, rising_end, rising_step}
+use Rattle.promql_label.proofs.order.PrintedTexts.{map_drop_all, map_drop_step, not_rising, rising_end, rising_step}
 use Rattle.promql_label.proofs.sorted.is_in_order.Goals as goal
 
 pub returns-then-is_below : goal.returns-then-is_below

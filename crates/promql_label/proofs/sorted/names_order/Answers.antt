@@ -1,6 +1,6 @@
 use Rattle.std.proofs.Common.{◌≡◌, ◌∙◌, ◌++◌, false, ap₂, sym}
 use Rattle.promql_label.specs.SortedTexts.{text_order}
-use Rattle.promql_label.proofs.TextOrders.{apart_stay, bare_name, begins}
+use Rattle.promql_label.proofs.order.TextOrders.{apart_stay, bare_name, begins}
 use Rattle.promql_label.proofs.sorted.names_order.Goals as goal
 
 pub returns : goal.returns

@@ -2,7 +2,7 @@ use Rattle.std.proofs.Common.{◌≡◌, length, sym, ap, ◌∙◌, arith, rule
 use Rattle.std.specs.Ordering.{is_lt}
 use Rattle.std.proofs.lemmas.List.Sorted.{IsPartitionPoint-from_clause}
 use Rattle.promql_label.specs.NextText.{is_less, row_texts, text_of}
-use Rattle.promql_label.proofs.TextRows.{end_is, front_is, place_is, rising_is_parted}
+use Rattle.promql_label.proofs.order.TextRows.{end_is, front_is, place_is, rising_is_parted}
 use Rattle.promql_label.proofs.sorted.place_in.Goals as goal
 
 pub returns-then-is_lt-clause-place : goal.returns-then-is_lt-clause-place

@@ -1,5 +1,5 @@
 use Rattle.std.proofs.Common.{◌-◌, length, take, arith}
-use Rattle.promql_label.proofs.TextRows.{last_set}
+use Rattle.promql_label.proofs.order.TextRows.{last_set}
 use Rattle.promql_label.proofs.sorted.put.Goals as goal
 
 pub returns : goal.returns

@@ -1,8 +1,8 @@
 use Rattle.std.proofs.Common.{◌++◌, true, refl, arith}
 use Rattle.std.proofs.Output.{has_written_styled_append}
 use Rattle.promql_label.specs.NextText.{comma_after, text_of}
-use Rattle.promql_label.proofs.PrintedTexts.{no_times, one_time_less}
-use Rattle.promql_text.proofs.Writing.{writing_flush, writing_more, writing_start, writing_end}
+use Rattle.promql_label.proofs.order.PrintedTexts.{no_times, one_time_less}
+use Rattle.promql_text.proofs.writing.Writing.{writing_flush, writing_more, writing_start, writing_end}
 use Rattle.promql_label.proofs.sorted.write_copies.Goals as goal
 
 pub copies-init : goal.copies-init

@@ -1,7 +1,7 @@
 use Rattle.std.proofs.Common.{true}
 use Rattle.std.specs.Fmt.{IsFlush}
 use Rattle.promql_label.specs.NextText.{text_of, texts_after, times}
-use Rattle.promql_text.proofs.Writing.{Writing}
+use Rattle.promql_text.proofs.writing.Writing.{Writing}
 use Rattle.promql_label.proofs.sorted.write_copies.Given as goal
 
 -- so many copies are still to be written

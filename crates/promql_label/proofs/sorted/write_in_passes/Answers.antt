@@ -6,8 +6,8 @@ use Rattle.std.specs.Option.{is_some}
 use Rattle.promql_text.specs.Texts.{Text}
 use Rattle.promql_label.specs.NextText.{again, is_above, last_of, row_texts, text_of, text_of_some, texts_after}
 use Rattle.promql_label.specs.SortedTexts.{sorted_texts}
-use Rattle.promql_label.proofs.PrintedTexts.{IsLeft, IsPass, above_fits, all_left, joined_is, nothing_left, pass_is, pass_text, some_text}
-use Rattle.promql_text.proofs.Writing.{writing_flush, writing_more, writing_start, writing_end}
+use Rattle.promql_label.proofs.order.PrintedTexts.{IsLeft, IsPass, above_fits, all_left, joined_is, nothing_left, pass_is, pass_text, some_text}
+use Rattle.promql_text.proofs.writing.Writing.{writing_flush, writing_more, writing_start, writing_end}
 use Rattle.promql_label.proofs.sorted.write_in_passes.Goals as goal
 
 pub passes-init : goal.passes-init

@@ -4,8 +4,8 @@ use Rattle.std.specs.Fmt.{IsFlush}
 use Rattle.promql_label.specs.NextText.{text_of, text_of_some, texts_after}
 use Rattle.promql_label.specs.SortedTexts.{sorted_texts}
 use Rattle.promql_text.specs.Texts.{Text, joined_text}
-use Rattle.promql_text.proofs.Writing.{Writing}
-use Rattle.promql_label.proofs.PrintedTexts.{IsLeft}
+use Rattle.promql_text.proofs.writing.Writing.{Writing}
+use Rattle.promql_label.proofs.order.PrintedTexts.{IsLeft}
 use Rattle.promql_label.proofs.sorted.write_in_passes.Given as goal
 
 -- so many of the sorted texts are left, and are still to be written

@@ -1,8 +1,8 @@
 use Rattle.std.proofs.Common.{◌++◌, refl, ap, arith}
 use Rattle.std.proofs.Output.{has_written_styled_append}
 use Rattle.promql_label.specs.NextText.{comma_after, text_of, texts_after}
-use Rattle.promql_label.proofs.PrintedTexts.{map_drop_all, map_drop_step}
-use Rattle.promql_text.proofs.Writing.{writing_flush, writing_more, writing_start, writing_end}
+use Rattle.promql_label.proofs.order.PrintedTexts.{map_drop_all, map_drop_step}
+use Rattle.promql_text.proofs.writing.Writing.{writing_flush, writing_more, writing_start, writing_end}
 use Rattle.promql_label.proofs.sorted.write_row.Goals as goal
 
 pub row-init : goal.row-init

@@ -1,7 +1,7 @@
 use Rattle.std.proofs.Common.{drop}
 use Rattle.std.specs.Fmt.{IsFlush}
 use Rattle.promql_label.specs.NextText.{row_texts, texts_after}
-use Rattle.promql_text.proofs.Writing.{Writing}
+use Rattle.promql_text.proofs.writing.Writing.{Writing}
 use Rattle.promql_label.proofs.sorted.write_row.Given as goal
 
 -- the matchers that are left are still to be written

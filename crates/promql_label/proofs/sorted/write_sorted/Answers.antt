@@ -2,7 +2,7 @@ use Rattle.std.proofs.Common.{◌∙◌, None, codes, map, refl, sym, ap}
 use Rattle.std.proofs.Output.{has_written_styled_of_eq}
 use Rattle.promql_label.specs.NextText.{text_of}
 use Rattle.promql_text.specs.Texts.{joined_text}
-use Rattle.promql_label.proofs.RisingTexts.{rising_is_sorted}
+use Rattle.promql_label.proofs.order.RisingTexts.{rising_is_sorted}
 use Rattle.promql_label.proofs.sorted.write_sorted.Goals as goal
 
 pub returns-then-is_in_order : goal.returns-then-is_in_order

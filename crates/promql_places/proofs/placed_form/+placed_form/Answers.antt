@@ -1,7 +1,7 @@
 use Rattle.std.proofs.Common.{◌+◌, ◌++◌, ap, drop, map, sym, ◌∙◌}
 use Rattle.serde_json.specs.View.{view}
-use Rattle.promql_ast.proofs.ChangedLists.{on_ok}
-use Rattle.promql_ast.proofs.NodeParts.{tree_of_call}
+use Rattle.promql_ast.proofs.nodes.ChangedLists.{on_ok}
+use Rattle.promql_ast.proofs.nodes.NodeParts.{tree_of_call}
 use Rattle.promql_ast.specs.View.{option_tree, tree_of, trees_of}
 use Rattle.promql_json.specs.JsonFaults.{json_fault}
 use Rattle.promql_json.specs.JsonParts.{list}

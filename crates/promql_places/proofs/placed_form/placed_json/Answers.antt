@@ -1,5 +1,5 @@
 use Rattle.std.specs.Prelude.{◌≡◌, ◌≢◌, IfErr, Some, Result, Ok, Err}
-use Rattle.promql_ast.proofs.ChangedLists.{on_ok}
+use Rattle.promql_ast.proofs.nodes.ChangedLists.{on_ok}
 use Rattle.promql_ast.specs.Tree.{Tree}
 use Rattle.promql_ast.specs.View.{tree_of}
 use Rattle.promql_json.specs.Json.{json}

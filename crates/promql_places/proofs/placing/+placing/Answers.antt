@@ -1,5 +1,5 @@
 use Rattle.std.proofs.Common.{◌∙◌, [], ap, refl, subst}
-use Rattle.promql_ast.proofs.ChangedLists.{on_ok}
+use Rattle.promql_ast.proofs.nodes.ChangedLists.{on_ok}
 use Rattle.promql_ast.specs.View.{option_tree, tree_of}
 use Rattle.promql_places.specs.CursorTokens.{Moved, kinds_left}
 use Rattle.promql_places.specs.PartSteps as step

@@ -5,8 +5,8 @@ use Rattle.promql_kind.specs.Functions.{signature_of}
 use Rattle.promql_ast.specs.Tree.{Tree, call, extension}
 use Rattle.promql_ast.specs.Mapped.{mapped}
 use Rattle.promql_ast.specs.View.{tree_of, trees}
-use Rattle.promql_ast.proofs.ChangedLists.{all_done, on_ok, one_more}
-use Rattle.promql_rewrite.proofs.RenamedLists.{mapped_trees}
+use Rattle.promql_ast.proofs.nodes.ChangedLists.{all_done, on_ok, one_more}
+use Rattle.promql_rewrite.proofs.renamed.RenamedLists.{mapped_trees}
 use Rattle.promql_rewrite.proofs.changing.+change.Goals as goal
 
 pub change_args-loop-i-preserved : goal.change_args-loop-i-preserved

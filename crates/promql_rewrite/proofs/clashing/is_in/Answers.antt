@@ -2,7 +2,7 @@ use Rattle.std.proofs.Common.{◌∙◌, string_bytes, rules, tests}
 use Rattle.std.specs.Str.{bytes_eq}
 use Rattle.std.proofs.lemmas.Iterator.{YieldsList-from_slice}
 use Rattle.std.proofs.lemmas.Iterator.Search.{any_from_yields_List}
-use Rattle.promql_label.proofs.CommonLabels.{list_any-texts}
+use Rattle.promql_label.proofs.label_lists.CommonLabels.{list_any-texts}
 use Rattle.promql_rewrite.proofs.clashing.is_in.Goals as goal
 
 pub returns : goal.returns

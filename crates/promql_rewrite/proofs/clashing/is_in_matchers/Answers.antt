@@ -1,7 +1,7 @@
 use Rattle.std.proofs.Common.{◌∙◌, ap, is_some}
 use Rattle.promql_label.specs.MatcherViews.{plain_matchers_of}
 use Rattle.promql_label.specs.PlainMatchers.{every}
-use Rattle.promql_rewrite.proofs.ListedNodes.{some_found, some_mapped}
+use Rattle.promql_rewrite.proofs.rules_broken.ListedNodes.{some_found, some_mapped}
 use Rattle.promql_rewrite.proofs.clashing.is_in_matchers.Goals as goal
 
 pub returns : goal.returns

@@ -1,10 +1,10 @@
 use Rattle.std.proofs.Common.{◌∙◌, ap, refl, sym}
 use Rattle.promql_ast.specs.View.{children_of, option_tree, tree_of, trees_of}
-use Rattle.promql_ast.proofs.NodeParts.{tree_of_call, tree_of_extension}
+use Rattle.promql_ast.proofs.nodes.NodeParts.{tree_of_call, tree_of_extension}
 use Rattle.promql_rewrite.specs.Collecting.{all_nodes, maybe_nodes, nodes_of, nodes_within}
 use Rattle.promql_rewrite.specs.CollectedNames.{joined, names_in, names_of, own_names}
-use Rattle.promql_rewrite.proofs.AppendedNames.{joined_all, joined_as, joined_both, joined_more, joined_nodes}
-use Rattle.promql_ast.proofs.ChangedLists.{on_ok}
+use Rattle.promql_rewrite.proofs.names.AppendedNames.{joined_all, joined_as, joined_both, joined_more, joined_nodes}
+use Rattle.promql_ast.proofs.nodes.ChangedLists.{on_ok}
 use Rattle.promql_rewrite.proofs.collecting.+collect.Goals as goal
 
 pub push_expr-returns : goal.push_expr-returns

@@ -1,6 +1,6 @@
 use Rattle.std.specs.String.{string_eq}
 use Rattle.std.proofs.lemmas.List.Filters.{dedup_is}
-use Rattle.promql_rewrite.proofs.CollectedSets.{set_of_sorted}
+use Rattle.promql_rewrite.proofs.names.CollectedSets.{set_of_sorted}
 use Rattle.promql_rewrite.proofs.collecting.make_set.Goals as goal
 
 pub returns : goal.returns

@@ -1,8 +1,8 @@
 use Rattle.std.proofs.Common.{[], ◌∙◌, ap, map, option_map, string_bytes, sym, unwrap_or}
 use Rattle.promql_kind.specs.ModifierViews.{clause_of}
 use Rattle.promql_kind.specs.Modifiers.{clause_labels}
-use Rattle.promql_rewrite.proofs.AppendedLists.{appended_as}
-use Rattle.promql_ast.proofs.ChangedLists.{on_ok}
+use Rattle.promql_rewrite.proofs.names.AppendedLists.{appended_as}
+use Rattle.promql_ast.proofs.nodes.ChangedLists.{on_ok}
 use Rattle.promql_rewrite.proofs.collecting.push_clause.Goals as goal
 
 pub returns-in-Some : goal.returns-in-Some

@@ -1,6 +1,6 @@
 use Rattle.std.proofs.Common.{◌≡◌, ◌++◌, filter, map, string_bytes}
 use Rattle.promql_label.specs.PlainMatchers.{value_of}
-use Rattle.promql_label.proofs.MatcherSearch.{held_from, held_of}
+use Rattle.promql_label.proofs.label_lists.MatcherSearch.{held_from, held_of}
 use Rattle.promql_rewrite.specs.Collecting.{is_metric_name}
 use Rattle.promql_rewrite.proofs.collecting.push_group_values.Given as goal
 

@@ -1,7 +1,7 @@
 use Rattle.std.proofs.Common.{◌≡◌, ◌++◌, filter, map, string_bytes}
 use Rattle.promql_label.specs.MatcherViews.{plain_matcher_of}
 use Rattle.promql_label.specs.PlainMatchers.{name_of}
-use Rattle.promql_label.proofs.MatcherSearch.{rest_from}
+use Rattle.promql_label.proofs.label_lists.MatcherSearch.{rest_from}
 use Rattle.promql_rewrite.specs.Collecting.{is_label_matcher}
 use Rattle.promql_rewrite.proofs.collecting.push_matcher_labels.Given as goal
 

@@ -2,8 +2,8 @@ use Rattle.std.proofs.Common.{[], ◌++◌, ◌∙◌, ap, append-nil, map, opti
 use Rattle.promql_label.specs.Labels.{labels_of}
 use Rattle.promql_kind.specs.ModifierViews.{cardinality_of, clause_of}
 use Rattle.promql_kind.specs.Modifiers.{clause_labels, grouping}
-use Rattle.promql_rewrite.proofs.AppendedLists.{appended_both}
-use Rattle.promql_ast.proofs.ChangedLists.{on_ok}
+use Rattle.promql_rewrite.proofs.names.AppendedLists.{appended_both}
+use Rattle.promql_ast.proofs.nodes.ChangedLists.{on_ok}
 use Rattle.promql_rewrite.proofs.collecting.push_matching.Goals as goal
 
 pub returns-in-Some : goal.returns-in-Some

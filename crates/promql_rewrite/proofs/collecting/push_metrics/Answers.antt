@@ -2,8 +2,8 @@ use Rattle.std.proofs.Common.{filter, map, option_map, option_to_list, refl, str
 use Rattle.promql_label.specs.MatcherViews.{plain_matchers_of}
 use Rattle.promql_label.specs.PlainMatchers.{every, value_of}
 use Rattle.promql_rewrite.specs.Collecting.{is_metric_name}
-use Rattle.promql_rewrite.proofs.AppendedLists.{appended_both}
-use Rattle.promql_ast.proofs.ChangedLists.{on_ok}
+use Rattle.promql_rewrite.proofs.names.AppendedLists.{appended_both}
+use Rattle.promql_ast.proofs.nodes.ChangedLists.{on_ok}
 use Rattle.promql_rewrite.proofs.collecting.push_metrics.Goals as goal
 
 pub returns : goal.returns

@@ -1,9 +1,9 @@
 use Rattle.std.proofs.Common.{◌∙◌, ap, sym}
 use Rattle.promql_ast.specs.View.{tree_of}
-use Rattle.promql_ast.proofs.NodeParts.{tree_of_aggregate, tree_of_call}
+use Rattle.promql_ast.proofs.nodes.NodeParts.{tree_of_aggregate, tree_of_call}
 use Rattle.promql_rewrite.specs.CollectedNames.{names_of, own_names}
-use Rattle.promql_rewrite.proofs.AppendedNames.{joined_as, names_more, unchanged}
-use Rattle.promql_ast.proofs.ChangedLists.{on_ok}
+use Rattle.promql_rewrite.proofs.names.AppendedNames.{joined_as, names_more, unchanged}
+use Rattle.promql_ast.proofs.nodes.ChangedLists.{on_ok}
 use Rattle.promql_rewrite.proofs.collecting.push_own.Goals as goal
 
 pub returns-in-Aggregate : goal.returns-in-Aggregate

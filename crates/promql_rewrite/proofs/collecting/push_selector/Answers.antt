@@ -4,7 +4,7 @@ use Rattle.std.proofs.lemmas.List.{map_push}
 use Rattle.promql_ast.specs.View.{selector_of}
 use Rattle.promql_rewrite.specs.Collecting.{selected_of}
 use Rattle.promql_rewrite.specs.CollectedNames.{names_of, selector_names}
-use Rattle.promql_rewrite.proofs.AppendedNames.{names_more, unchanged}
+use Rattle.promql_rewrite.proofs.names.AppendedNames.{names_more, unchanged}
 use Rattle.promql_rewrite.proofs.collecting.push_selector.Goals as goal
 
 pub returns : goal.returns

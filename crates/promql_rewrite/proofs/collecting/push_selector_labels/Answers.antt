@@ -2,10 +2,10 @@ use Rattle.std.proofs.Common.{ap, filter, map, string_bytes, sym}
 use Rattle.std.specs.Prelude.{List}
 use Rattle.promql_label.specs.MatcherViews.{plain_matcher_of}
 use Rattle.promql_label.specs.PlainMatchers.{PlainMatcher, name_of}
-use Rattle.promql_label.proofs.MatcherSearch.{held_of}
+use Rattle.promql_label.proofs.label_lists.MatcherSearch.{held_of}
 use Rattle.promql_rewrite.specs.Collecting.{is_label_matcher}
-use Rattle.promql_rewrite.proofs.AppendedLists.{appended_as, appended_both, passed_both}
-use Rattle.promql_ast.proofs.ChangedLists.{on_ok}
+use Rattle.promql_rewrite.proofs.names.AppendedLists.{appended_as, appended_both, passed_both}
+use Rattle.promql_ast.proofs.nodes.ChangedLists.{on_ok}
 use Rattle.promql_rewrite.proofs.collecting.push_selector_labels.Goals as goal
 
 pub returns : goal.returns

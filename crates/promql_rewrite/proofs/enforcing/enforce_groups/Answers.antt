@@ -3,7 +3,7 @@ use Rattle.std.proofs.lemmas.List.{drop-set-lt}
 use Rattle.std.proofs.lemmas.Grind.{drop_more_same}
 use Rattle.promql_label.specs.MatcherViews.{plain_matcher_of}
 use Rattle.promql_rewrite.specs.Enforcing.{with_matcher}
-use Rattle.promql_ast.proofs.ChangedLists.{all_done, left_same, one_more}
+use Rattle.promql_ast.proofs.nodes.ChangedLists.{all_done, left_same, one_more}
 use Rattle.promql_rewrite.proofs.enforcing.enforce_groups.Goals as goal
 
 pub loop-i-preserved : goal.loop-i-preserved

@@ -3,8 +3,8 @@ use Rattle.std.proofs.lemmas.List.{with_items_is}
 use Rattle.promql_label.specs.MatcherViews.{plain_matcher_of}
 use Rattle.promql_label.specs.PlainMatchers.{plain_matchers}
 use Rattle.promql_rewrite.specs.Enforcing.{with_matcher}
-use Rattle.promql_ast.proofs.ChangedLists.{on_ok}
-use Rattle.promql_rewrite.proofs.TreeRows.{groups_enforced}
+use Rattle.promql_ast.proofs.nodes.ChangedLists.{on_ok}
+use Rattle.promql_rewrite.proofs.readback.TreeRows.{groups_enforced}
 use Rattle.promql_rewrite.proofs.enforcing.enforce_matchers.Goals as goal
 
 pub returns-else-is_empty : goal.returns-else-is_empty

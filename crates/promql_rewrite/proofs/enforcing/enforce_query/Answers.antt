@@ -3,7 +3,7 @@ use Rattle.std.specs.Prelude.{Err}
 use Rattle.std.proofs.lemmas.Result.{err_from_is_err_and}
 use Rattle.promql_syntax.specs.ParseAnswers.{IsAnswerTo, plain_error_of}
 use Rattle.promql_rewrite.specs.declared.enforcing.EnforceError.TheVariants.{Parse}
-use Rattle.promql_rewrite.proofs.Rejections.{passed_own}
+use Rattle.promql_rewrite.proofs.rules_broken.Rejections.{passed_own}
 use Rattle.promql_rewrite.proofs.enforcing.enforce_query.Goals as goal
 
 pub returns-in_err-expr-clause-parse : goal.returns-in_err-expr-clause-parse

@@ -1,6 +1,6 @@
 use Rattle.std.proofs.Common.{◌∙◌, ap}
 use Rattle.std.specs.Prelude.{Err}
-use Rattle.promql_rewrite.proofs.Rejections.{of_enforced}
+use Rattle.promql_rewrite.proofs.rules_broken.Rejections.{of_enforced}
 use Rattle.promql_rewrite.proofs.enforcing.enforced_line.Goals as goal
 
 pub returns-in-Err-faithful_line-clause-errors : goal.returns-in-Err-faithful_line-clause-errors

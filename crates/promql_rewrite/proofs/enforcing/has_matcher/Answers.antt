@@ -3,7 +3,7 @@ use Rattle.std.proofs.lemmas.Iterator.{YieldsList-from_slice}
 use Rattle.std.proofs.lemmas.Iterator.Search.{any_from_yields_List}
 use Rattle.promql_label.specs.MatcherViews.{plain_matcher_of}
 use Rattle.promql_ast.specs.Same.{matcher_eq}
-use Rattle.promql_rewrite.proofs.SameMatchers.{any_mapped}
+use Rattle.promql_rewrite.proofs.enforcement.SameMatchers.{any_mapped}
 use Rattle.promql_rewrite.proofs.enforcing.has_matcher.Goals as goal
 
 pub returns : goal.returns

@@ -1,6 +1,6 @@
 use Rattle.std.proofs.Common.{◌∙◌}
 use Rattle.promql_label.specs.MatcherViews.{plain_matcher_of}
-use Rattle.promql_rewrite.proofs.SameMatchers.{matcher_Decides, same_test}
+use Rattle.promql_rewrite.proofs.enforcement.SameMatchers.{matcher_Decides, same_test}
 use Rattle.promql_rewrite.proofs.enforcing.is_same.Goals as goal
 
 pub returns : goal.returns

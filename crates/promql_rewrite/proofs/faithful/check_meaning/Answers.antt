@@ -3,7 +3,7 @@ use Rattle.std.specs.Prelude.{Err}
 use Rattle.std.proofs.lemmas.Result.{err_from_is_err_and}
 use Rattle.promql_syntax.specs.ParseAnswers.{IsAnswerTo, plain_error_of}
 use Rattle.promql_rewrite.specs.declared.faithful.NotFaithful.TheVariants.{Rejected}
-use Rattle.promql_rewrite.proofs.Rejections.{raised_own}
+use Rattle.promql_rewrite.proofs.rules_broken.Rejections.{raised_own}
 use Rattle.promql_rewrite.proofs.faithful.check_meaning.Goals as goal
 
 pub returns-in_err-read-clause-rejected : goal.returns-in_err-read-clause-rejected

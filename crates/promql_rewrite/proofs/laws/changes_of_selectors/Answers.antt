@@ -1,4 +1,4 @@
-use Rattle.promql_rewrite.proofs.MapsSelectors.{outline_enforced, outline_renamed, selectors_enforced, selectors_renamed}
+use Rattle.promql_rewrite.proofs.mapped.MapsSelectors.{outline_enforced, outline_renamed, selectors_enforced, selectors_renamed}
 use Rattle.promql_rewrite.proofs.laws.changes_of_selectors.Goals as goal
 
 pub returns : goal.returns

@@ -1,4 +1,4 @@
-use Rattle.promql_rewrite.proofs.EnforcedTwice.{enforced_twice}
+use Rattle.promql_rewrite.proofs.enforcement.EnforcedTwice.{enforced_twice}
 use Rattle.promql_rewrite.proofs.laws.enforced_once.Goals as goal
 
 pub returns : goal.returns

@@ -1,4 +1,4 @@
-use Rattle.promql_rewrite.proofs.EnforcedTexts.{enforced_line, enforced_lines}
+use Rattle.promql_rewrite.proofs.enforcement.EnforcedTexts.{enforced_line, enforced_lines}
 use Rattle.promql_rewrite.proofs.laws.enforced_queries_read_back.Goals as goal
 
 pub returns : goal.returns

@@ -1,4 +1,4 @@
-use Rattle.promql_rewrite.proofs.EnforcedSelectors.{selects_enforced}
+use Rattle.promql_rewrite.proofs.enforcement.EnforcedSelectors.{selects_enforced}
 use Rattle.promql_rewrite.proofs.laws.enforced_selectors_select.Goals as goal
 
 pub returns : goal.returns

@@ -1,5 +1,5 @@
-use Rattle.promql_rewrite.proofs.EnforcedChecks.{type_enforced}
-use Rattle.promql_rewrite.proofs.EnforcedTypes.{height_enforced, typed_enforced}
+use Rattle.promql_rewrite.proofs.enforcement.EnforcedChecks.{type_enforced}
+use Rattle.promql_rewrite.proofs.enforcement.EnforcedTypes.{height_enforced, typed_enforced}
 use Rattle.promql_rewrite.proofs.laws.enforced_trees_are_typed.Goals as goal
 
 pub returns : goal.returns

@@ -1,5 +1,5 @@
-use Rattle.promql_rewrite.proofs.MappedTrees.{same_heights, same_kinds, same_trees, same_types}
-use Rattle.promql_rewrite.proofs.MappedTyped.{typed_again}
+use Rattle.promql_rewrite.proofs.mapped.MappedTrees.{same_heights, same_kinds, same_trees, same_types}
+use Rattle.promql_rewrite.proofs.mapped.MappedTyped.{typed_again}
 use Rattle.promql_rewrite.proofs.laws.mapped_trees.Goals as goal
 
 pub returns : goal.returns

@@ -1,8 +1,8 @@
 use Rattle.promql_rewrite.specs.Parenthesizing.{parenthesized}
-use Rattle.promql_rewrite.proofs.NodeParts.{placed_listed, placed_throughout}
-use Rattle.promql_rewrite.proofs.ParenFewest.{adds, fewest}
-use Rattle.promql_rewrite.proofs.ParenOrder.{only}
-use Rattle.promql_rewrite.proofs.ParenPlaces.{unchanged, well_placed}
+use Rattle.promql_rewrite.proofs.rules_broken.NodeParts.{placed_listed, placed_throughout}
+use Rattle.promql_rewrite.proofs.parentheses.ParenFewest.{adds, fewest}
+use Rattle.promql_rewrite.proofs.parentheses.ParenOrder.{only}
+use Rattle.promql_rewrite.proofs.parentheses.ParenPlaces.{unchanged, well_placed}
 use Rattle.promql_rewrite.proofs.laws.parentheses_are_fewest.Goals as goal
 
 pub returns : goal.returns

@@ -1,9 +1,9 @@
 use Rattle.promql_rewrite.specs.Parenthesizing.{parenthesized}
 use Rattle.promql_rewrite.specs.PrintableTrees.{PatternsAnswered}
-use Rattle.promql_rewrite.proofs.EachNode.{listed, throughout}
-use Rattle.promql_rewrite.proofs.NodeParts.{parts_listed, parts_throughout, placed_listed}
-use Rattle.promql_rewrite.proofs.ParenPlaces.{well_placed}
-use Rattle.promql_rewrite.proofs.ParenTypes.{answered_kept, low_kept, parts_kept, type_kept, typed_kept}
+use Rattle.promql_rewrite.proofs.rules_broken.EachNode.{listed, throughout}
+use Rattle.promql_rewrite.proofs.rules_broken.NodeParts.{parts_listed, parts_throughout, placed_listed}
+use Rattle.promql_rewrite.proofs.parentheses.ParenPlaces.{well_placed}
+use Rattle.promql_rewrite.proofs.parentheses.ParenTypes.{answered_kept, low_kept, parts_kept, type_kept, typed_kept}
 use Rattle.promql_rewrite.proofs.laws.parenthesized_trees_are_printable.Goals as goal
 
 pub returns : goal.returns

@@ -1,5 +1,5 @@
-use Rattle.promql_rewrite.proofs.ParsedPrintable.{parsed_printable}
-use Rattle.promql_rewrite.proofs.PrintableApart.{printable_apart}
+use Rattle.promql_rewrite.proofs.readback.ParsedPrintable.{parsed_printable}
+use Rattle.promql_rewrite.proofs.readback.PrintableByNodes.{printable_apart}
 use Rattle.promql_rewrite.proofs.laws.parsed_trees_are_printable.Goals as goal
 
 pub returns : goal.returns

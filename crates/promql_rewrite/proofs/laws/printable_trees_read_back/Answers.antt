@@ -1,5 +1,5 @@
-use Rattle.promql_rewrite.proofs.PrintableApart.{printable_joined}
-use Rattle.promql_rewrite.proofs.PrintableTexts.{printable_line, printable_lines}
+use Rattle.promql_rewrite.proofs.readback.PrintableByNodes.{printable_joined}
+use Rattle.promql_rewrite.proofs.readback.PrintableTexts.{printable_line, printable_lines}
 use Rattle.promql_rewrite.proofs.laws.printable_trees_read_back.Goals as goal
 
 pub returns : goal.returns

@@ -1,4 +1,4 @@
-use Rattle.promql_rewrite.proofs.RenamedNames.{functions_renamed, labels_kept, labels_renamed, metrics_kept, metrics_renamed}
+use Rattle.promql_rewrite.proofs.renamed.RenamedNames.{functions_renamed, labels_kept, labels_renamed, metrics_kept, metrics_renamed}
 use Rattle.promql_rewrite.proofs.laws.renamed_names.Goals as goal
 
 pub returns : goal.returns

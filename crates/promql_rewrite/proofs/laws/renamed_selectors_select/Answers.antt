@@ -1,4 +1,4 @@
-use Rattle.promql_rewrite.proofs.RenamedSeries.{label_selects}
+use Rattle.promql_rewrite.proofs.renamed.RenamedSeries.{label_selects}
 use Rattle.promql_rewrite.proofs.laws.renamed_selectors_select.Goals as goal
 
 pub returns : goal.returns

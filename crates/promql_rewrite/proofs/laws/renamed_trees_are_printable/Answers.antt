@@ -1,6 +1,6 @@
 use Rattle.promql_rewrite.specs.Renaming.{of_label, of_metric, renamed}
-use Rattle.promql_rewrite.proofs.PrintableApart.{printable_apart, printable_joined}
-use Rattle.promql_rewrite.proofs.RenamedPrintable.{label_printable, metric_printable}
+use Rattle.promql_rewrite.proofs.readback.PrintableByNodes.{printable_apart, printable_joined}
+use Rattle.promql_rewrite.proofs.renamed.RenamedPrintable.{label_printable, metric_printable}
 use Rattle.promql_rewrite.proofs.laws.renamed_trees_are_printable.Goals as goal
 
 pub returns : goal.returns

@@ -1,6 +1,6 @@
-use Rattle.promql_rewrite.proofs.RenamedTrees.{label_typed, metric_typed}
-use Rattle.promql_rewrite.proofs.RenamedTypes.{height_renamed, type_renamed}
-use Rattle.promql_rewrite.proofs.SomeNames.{some_name}
+use Rattle.promql_rewrite.proofs.renamed.RenamedTrees.{label_typed, metric_typed}
+use Rattle.promql_rewrite.proofs.renamed.RenamedTypes.{height_renamed, type_renamed}
+use Rattle.promql_rewrite.proofs.names.SomeNames.{some_name}
 use Rattle.promql_rewrite.proofs.laws.renamed_trees_are_typed.Goals as goal
 
 pub returns : goal.returns

@@ -1,4 +1,4 @@
-use Rattle.promql_rewrite.proofs.OneSet.{one_set}
+use Rattle.promql_rewrite.proofs.names.OneSet.{one_set}
 use Rattle.promql_rewrite.proofs.laws.sets_are_one_list.Goals as goal
 
 pub returns : goal.returns

@@ -1,4 +1,4 @@
-use Rattle.promql_rewrite.proofs.TypedNodes.{passes_typed, typed_passes}
+use Rattle.promql_rewrite.proofs.well_typed.TypedNodes.{passes_typed, typed_passes}
 use Rattle.promql_rewrite.proofs.laws.well_typed_trees_pass_their_checks.Goals as goal
 
 pub returns : goal.returns

@@ -6,8 +6,8 @@ use Rattle.promql_ast.specs.Tree.{call, extension}
 use Rattle.promql_ast.specs.View.{option_tree, tree_of, trees}
 use Rattle.promql_rewrite.specs.Mapping.{all_outlines, outline}
 use Rattle.promql_rewrite.specs.MappedSelectors.{param_selectors, selectors_in}
-use Rattle.promql_rewrite.proofs.MappedLists.{fails_here, fails_in, kind_later, maps_more, maps_then, outlined_trees}
-use Rattle.promql_ast.proofs.ChangedLists.{on_ok, one_more}
+use Rattle.promql_rewrite.proofs.mapped.MappedLists.{fails_here, fails_in, kind_later, maps_more, maps_then, outlined_trees}
+use Rattle.promql_ast.proofs.nodes.ChangedLists.{on_ok, one_more}
 use Rattle.promql_rewrite.proofs.mapping.+map.Goals as goal
 
 pub map_aggregate-returns-in-Ok-clause-selectors : goal.map_aggregate-returns-in-Ok-clause-selectors

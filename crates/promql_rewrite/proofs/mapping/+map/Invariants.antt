@@ -1,7 +1,7 @@
 use Rattle.std.proofs.Common.{◌≡◌, map, take}
 use Rattle.promql_ast.specs.View.{tree_of}
 use Rattle.promql_rewrite.specs.Mapping.{Maps, outline}
-use Rattle.promql_rewrite.proofs.MappedLists.{in_front}
+use Rattle.promql_rewrite.proofs.mapped.MappedLists.{in_front}
 use Rattle.promql_rewrite.proofs.mapping.+map.Given as goal
 
 abbrev pub invariant-map_args-loop-i : goal.invariant-map_args-loop-i

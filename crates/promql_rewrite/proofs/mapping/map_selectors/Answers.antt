@@ -2,8 +2,8 @@ use Rattle.std.proofs.Common.{◌∙◌}
 use Rattle.std.proofs.lemmas.List.{map-id}
 use Rattle.promql_ast.specs.View.{tree_of}
 use Rattle.promql_rewrite.specs.Mapping.{selectors_of}
-use Rattle.promql_rewrite.proofs.MappedLists.{fails_tree, maps_by, maps_tree}
-use Rattle.promql_rewrite.proofs.MappedTrees.{same_trees}
+use Rattle.promql_rewrite.proofs.mapped.MappedLists.{fails_tree, maps_by, maps_tree}
+use Rattle.promql_rewrite.proofs.mapped.MappedTrees.{same_trees}
 use Rattle.promql_rewrite.proofs.mapping.map_selectors.Goals as goal
 
 pub returns-in-Ok-clause-selectors : goal.returns-in-Ok-clause-selectors

@@ -1,6 +1,6 @@
 use Rattle.std.proofs.Common.{◌<◌, ◌≤◌, ◌∙◌, ap, length, slice_index_or, subst, sym}
 use Rattle.std.specs.Prelude.{◌==◌}
-use Rattle.promql_rewrite.proofs.SecondMatchers.{has_second}
+use Rattle.promql_rewrite.proofs.enforcement.SecondMatchers.{has_second}
 use Rattle.promql_rewrite.proofs.matcher_text.second_matcher.Goals as goal
 
 pub returns-in-len2 : goal.returns-in-len2

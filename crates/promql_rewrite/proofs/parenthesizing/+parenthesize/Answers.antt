@@ -5,8 +5,8 @@ use Rattle.promql_kind.specs.Functions.{signature_of}
 use Rattle.promql_ast.specs.Tree.{call, extension}
 use Rattle.promql_ast.specs.View.{tree_of, trees}
 use Rattle.promql_rewrite.specs.Parenthesizing.{parenthesized}
-use Rattle.promql_rewrite.proofs.ParenRows.{parenthesized_trees}
-use Rattle.promql_ast.proofs.ChangedLists.{all_done, on_ok, one_more}
+use Rattle.promql_rewrite.proofs.parentheses.ParenRows.{parenthesized_trees}
+use Rattle.promql_ast.proofs.nodes.ChangedLists.{all_done, on_ok, one_more}
 use Rattle.promql_rewrite.proofs.parenthesizing.+parenthesize.Goals as goal
 
 pub parenthesize_args-loop-i-preserved : goal.parenthesize_args-loop-i-preserved

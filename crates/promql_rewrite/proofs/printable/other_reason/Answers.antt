@@ -1,5 +1,5 @@
 use Rattle.promql_ast.specs.View.{tree_of}
-use Rattle.promql_rewrite.proofs.ReasonsFound.{all_fitting, found_is_reason}
+use Rattle.promql_rewrite.proofs.rules_broken.ReasonsFound.{all_fitting, found_is_reason}
 use Rattle.promql_rewrite.proofs.printable.other_reason.Goals as goal
 
 pub returns-in-Some : goal.returns-in-Some

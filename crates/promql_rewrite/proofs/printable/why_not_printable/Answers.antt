@@ -1,6 +1,6 @@
 use Rattle.std.proofs.Common.{◌∙◌, ap, Err, string_bytes}
 use Rattle.promql_ast.specs.View.{tree_of}
-use Rattle.promql_rewrite.proofs.Judging.{judged_other, judged_rejected, judged_yes}
+use Rattle.promql_rewrite.proofs.readback.Judging.{judged_other, judged_rejected, judged_yes}
 use Rattle.promql_rewrite.proofs.printable.why_not_printable.Goals as goal
 
 pub returns-in-Ok : goal.returns-in-Ok

@@ -3,7 +3,7 @@ use Rattle.std.proofs.lemmas.List.{drop_all}
 use Rattle.promql_label.specs.MatcherViews.{plain_matcher_of}
 use Rattle.promql_label.specs.declared.matcher.Matcher.{Matcher}
 use Rattle.promql_rewrite.specs.PrintableNodes.{NoneEmpty}
-use Rattle.promql_rewrite.proofs.NoneEmptyGroups.{one_empty, one_more}
+use Rattle.promql_rewrite.proofs.readback.NoneEmptyGroups.{one_empty, one_more}
 use Rattle.promql_rewrite.proofs.reasons.have_matchers.Goals as goal
 
 pub loop-group-preserved : goal.loop-group-preserved

@@ -2,7 +2,7 @@ use Rattle.std.proofs.Common.{◌≡◌, ◌∙◌, ◌&&◌, ◌∷◌, ap, not
 use Rattle.promql_token.specs.Cursor.{ends_in_fault, tokens_left}
 use Rattle.promql_token.specs.Lexing.{tokens}
 use Rattle.promql_rewrite.specs.Renamings.{is_nothing}
-use Rattle.promql_rewrite.proofs.NameTokens.{named, not_named}
+use Rattle.promql_rewrite.proofs.renamed.NameTokens.{named, not_named}
 use Rattle.promql_rewrite.proofs.renaming.is_name.Goals as goal
 
 pub returns-in-None : goal.returns-in-None

@@ -4,7 +4,7 @@ use Rattle.std.proofs.lemmas.Grind.{drop_more_same}
 use Rattle.promql_label.specs.MatcherViews.{plain_matcher_of}
 use Rattle.promql_rewrite.specs.Renaming.{renamed_matcher}
 use Rattle.promql_rewrite.specs.Renamings.{renaming_of}
-use Rattle.promql_ast.proofs.ChangedLists.{all_done, left_same, one_more}
+use Rattle.promql_ast.proofs.nodes.ChangedLists.{all_done, left_same, one_more}
 use Rattle.promql_rewrite.proofs.renaming.rename_each.Goals as goal
 
 pub loop-i-preserved : goal.loop-i-preserved

@@ -3,8 +3,8 @@ use Rattle.std.proofs.lemmas.List.{with_items_is}
 use Rattle.promql_label.specs.MatcherViews.{plain_matcher_of}
 use Rattle.promql_rewrite.specs.Renaming.{renamed_matcher}
 use Rattle.promql_rewrite.specs.Renamings.{renaming_of}
-use Rattle.promql_rewrite.proofs.RenamedLists.{mapped_twice}
-use Rattle.promql_ast.proofs.ChangedLists.{on_ok}
+use Rattle.promql_rewrite.proofs.renamed.RenamedLists.{mapped_twice}
+use Rattle.promql_ast.proofs.nodes.ChangedLists.{on_ok}
 use Rattle.promql_rewrite.proofs.renaming.rename_list.Goals as goal
 
 pub returns : goal.returns

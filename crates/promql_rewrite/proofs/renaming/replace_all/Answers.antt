@@ -1,8 +1,8 @@
 use Rattle.std.proofs.Common.{◌∙◌, ap, arith, map, string_bytes}
 use Rattle.std.proofs.lemmas.List.{with_items_is}
 use Rattle.promql_rewrite.specs.Renaming.{replaced}
-use Rattle.promql_rewrite.proofs.RenamedLists.{mapped_twice}
-use Rattle.promql_ast.proofs.ChangedLists.{on_ok}
+use Rattle.promql_rewrite.proofs.renamed.RenamedLists.{mapped_twice}
+use Rattle.promql_ast.proofs.nodes.ChangedLists.{on_ok}
 use Rattle.promql_rewrite.proofs.renaming.replace_all.Goals as goal
 
 pub returns : goal.returns

@@ -2,7 +2,7 @@ use Rattle.std.proofs.Common.{◌+◌, ◌∙◌, string_bytes, arith, rules}
 use Rattle.std.proofs.lemmas.List.{drop-set-lt}
 use Rattle.std.proofs.lemmas.Grind.{drop_more_same}
 use Rattle.promql_rewrite.specs.Renaming.{replaced}
-use Rattle.promql_ast.proofs.ChangedLists.{all_done, left_same, one_more}
+use Rattle.promql_ast.proofs.nodes.ChangedLists.{all_done, left_same, one_more}
 use Rattle.promql_rewrite.proofs.renaming.replace_each.Goals as goal
 
 pub loop-i-preserved : goal.loop-i-preserved

@@ -1,9 +1,9 @@
 use Rattle.std.proofs.Common.{◌∙◌, ap, false, refl, sym}
 use Rattle.std.specs.List.{list_any}
 use Rattle.promql_ast.specs.View.{children_of, tree_of, trees_of}
-use Rattle.promql_ast.proofs.NodeParts.{tree_of_call, tree_of_extension}
+use Rattle.promql_ast.proofs.nodes.NodeParts.{tree_of_call, tree_of_extension}
 use Rattle.promql_rewrite.specs.Collecting.{all_nodes, nodes_of, nodes_within}
-use Rattle.promql_rewrite.proofs.ListedNodes.{any_after, any_here, any_nowhere}
+use Rattle.promql_rewrite.proofs.rules_broken.ListedNodes.{any_after, any_here, any_nowhere}
 use Rattle.promql_rewrite.proofs.some_node.+some_node.Goals as goal
 
 pub has_within-returns-in-Call : goal.has_within-returns-in-Call

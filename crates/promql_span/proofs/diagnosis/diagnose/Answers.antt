@@ -1,6 +1,6 @@
 use Rattle.std.proofs.Common.{ap, ◌∙◌, arith}
 use Rattle.std.specs.Prelude.{Err}
-use Rattle.promql_syntax.proofs.AnswerLemmas.{drawn_answer, build_error_answer, read_error_answer, rejection_answer}
+use Rattle.promql_syntax.proofs.answer.AnswerLemmas.{drawn_answer, build_error_answer, read_error_answer, rejection_answer}
 use Rattle.promql_span.proofs.ErrorPlacing.{placed_fault}
 use Rattle.promql_span.proofs.diagnosis.diagnose.Goals as goal
 

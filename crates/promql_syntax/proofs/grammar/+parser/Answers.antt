@@ -7,10 +7,10 @@ use Rattle.promql_grammar.specs.GrammarParts.{yield_modifier}
 use Rattle.promql_grammar.specs.Parsing.{parse_arguments, parse_expression, parse_unary, parse_call, parse_aggregate, parse_selector}
 use Rattle.promql_grammar.specs.SymbolsLeft.{symbols_left, token_count}
 use Rattle.promql_grammar.proofs.Eating.{at_word}
-use Rattle.promql_syntax.proofs.FirstTokens.{called_first, called_none, leaf_first, base_begins, given_begins}
-use Rattle.promql_syntax.proofs.Bases.{bases_same, counted_on, expression_length, modifier_length, recounted, recounted_args, recounted_base, postfixed_given, sign_fails, sign_given, paren_open, paren_base, call_fails, call_base, aggregated_none, after_fails, after_clause_fails, after_base, before_fails, before_open, before_arguments_fail, before_base}
-use Rattle.promql_syntax.proofs.Climbing.{expression_zero, expression_fails, climbing_first, climbing_stops, climbing_deep, climbing_unmodified, climbing_fails, climbing_on}
-use Rattle.promql_syntax.proofs.Collecting.{arguments_fail, collecting_first, collecting_fails, collecting_on, collecting_none, collecting_ends}
+use Rattle.promql_syntax.proofs.parsing.FirstTokens.{called_first, called_none, leaf_first, base_begins, given_begins}
+use Rattle.promql_syntax.proofs.parsing.Bases.{bases_same, counted_on, expression_length, modifier_length, recounted, recounted_args, recounted_base, postfixed_given, sign_fails, sign_given, paren_open, paren_base, call_fails, call_base, aggregated_none, after_fails, after_clause_fails, after_base, before_fails, before_open, before_arguments_fail, before_base}
+use Rattle.promql_syntax.proofs.parsing.Climbing.{expression_zero, expression_fails, climbing_first, climbing_stops, climbing_deep, climbing_unmodified, climbing_fails, climbing_on}
+use Rattle.promql_syntax.proofs.parsing.Collecting.{arguments_fail, collecting_first, collecting_fails, collecting_on, collecting_none, collecting_ends}
 use Rattle.promql_syntax.proofs.grammar.+parser.Goals as goal
 
 -- ---- expressions

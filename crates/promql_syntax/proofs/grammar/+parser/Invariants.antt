@@ -2,8 +2,8 @@ use Rattle.std.proofs.Common.{◌≡◌, ◌+◌, ◌*◌, ◌≤◌, true, leng
 use Rattle.promql_grammar.specs.Parsing.{parse_expression}
 use Rattle.promql_grammar.specs.Symbols.{begins}
 use Rattle.promql_grammar.specs.SymbolsLeft.{CountsTaken, symbols_left, token_count}
-use Rattle.promql_syntax.proofs.Climbing.{Climbing}
-use Rattle.promql_syntax.proofs.Collecting.{Collecting}
+use Rattle.promql_syntax.proofs.parsing.Climbing.{Climbing}
+use Rattle.promql_syntax.proofs.parsing.Collecting.{Collecting}
 use Rattle.promql_syntax.proofs.grammar.+parser.Given as goal
 
 abbrev pub decreases-expression::parse_expression : goal.decreases-expression::parse_expression

@@ -1,4 +1,4 @@
-use Rattle.promql_syntax.proofs.CanonicalTexts.{answer_has, has_answer}
+use Rattle.promql_syntax.proofs.readback.CanonicalTexts.{answer_has, has_answer}
 use Rattle.promql_syntax.proofs.laws.answers_are_trees.Goals as goal
 
 pub returns : goal.returns

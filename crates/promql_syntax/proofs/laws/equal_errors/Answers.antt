@@ -1,4 +1,4 @@
-use Rattle.promql_syntax.proofs.SameParseErrors.{error_Decides}
+use Rattle.promql_syntax.proofs.answer.SameParseErrors.{error_Decides}
 use Rattle.promql_syntax.proofs.laws.equal_errors.Goals as goal
 
 pub returns : goal.returns

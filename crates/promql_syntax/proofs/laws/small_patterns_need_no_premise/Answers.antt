@@ -1,6 +1,6 @@
 use Rattle.promql_label.specs.Answers.{has_one_answer, pattern_answer}
-use Rattle.promql_syntax.proofs.AskedPatterns.{normal_patterns}
-use Rattle.promql_syntax.proofs.SmallAnswers.{tree_is_answer, tree_is_had}
+use Rattle.promql_syntax.proofs.building.AskedPatterns.{normal_patterns}
+use Rattle.promql_syntax.proofs.building.SmallAnswers.{tree_is_answer, tree_is_had}
 use Rattle.promql_syntax.proofs.laws.small_patterns_need_no_premise.Goals as goal
 
 pub returns : goal.returns

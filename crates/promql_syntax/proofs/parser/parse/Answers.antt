@@ -1,6 +1,6 @@
 use Rattle.std.proofs.Common.{ap, ◌∙◌}
 use Rattle.std.specs.Prelude.{Err}
-use Rattle.promql_syntax.proofs.AnswerLemmas.{drawn_answer, build_error_answer, read_error_answer, rejection_answer}
+use Rattle.promql_syntax.proofs.answer.AnswerLemmas.{drawn_answer, build_error_answer, read_error_answer, rejection_answer}
 use Rattle.promql_syntax.proofs.parser.parse.Goals as goal
 
 pub returns-in-Ok-Ok : goal.returns-in-Ok-Ok

@@ -1,5 +1,5 @@
 use Rattle.std.proofs.Common.{arith}
-use Rattle.promql_text.proofs.Tens.{whole_step, zeros_below}
+use Rattle.promql_text.proofs.numbers.Tens.{whole_step, zeros_below}
 use Rattle.promql_text.proofs.decimal.without_zeros.Goals as goal
 
 pub loop-digits-preserved : goal.loop-digits-preserved

@@ -1,6 +1,6 @@
 use Rattle.std.proofs.Common.{arith}
-use Rattle.promql_text.proofs.Points.{all_after_point, power_fits}
-use Rattle.promql_text.proofs.Tens.{ten_pos}
+use Rattle.promql_text.proofs.numerals.Points.{all_after_point, power_fits}
+use Rattle.promql_text.proofs.numbers.Tens.{ten_pos}
 use Rattle.promql_text.proofs.display.split_at_point.Goals as goal
 
 pub returns-then-places-ge38 : goal.returns-then-places-ge38

@@ -4,7 +4,7 @@ use Rattle.promql_text.specs.DecimalForm.{decimal_form}
 use Rattle.promql_text.specs.DecimalParts.{form_of}
 use Rattle.promql_text.specs.Durations.{GivesDuration, of_parts, parts_nanos, units}
 use Rattle.promql_text.specs.declared.duration.DurationFault.{DurationFault}
-use Rattle.promql_text.proofs.SaturatingParts.{duration-empty, duration-form}
+use Rattle.promql_text.proofs.durations.SaturatingParts.{duration-empty, duration-form}
 use Rattle.promql_text.proofs.duration.parse_duration.Goals as goal
 
 pub returns-then-is_empty : goal.returns-then-is_empty

@@ -5,7 +5,7 @@ use Rattle.promql_text.specs.Texts.{Text}
 use Rattle.promql_text.specs.DecimalForm.{past_run}
 use Rattle.promql_text.specs.Durations.{is_no_digit, nanos_of, parts_nanos, word_run, past_word}
 use Rattle.promql_text.specs.DurationReaders.{cap_u128, seek}
-use Rattle.promql_text.proofs.SaturatingParts.{parts-no_digit, parts-no_unit, takes_part, part_shorter}
+use Rattle.promql_text.proofs.durations.SaturatingParts.{parts-no_digit, parts-no_unit, takes_part, part_shorter}
 use Rattle.promql_text.proofs.duration.part.Goals as goal
 
 pub returns-in_err-count : goal.returns-in_err-count

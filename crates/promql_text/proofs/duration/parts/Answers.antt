@@ -1,7 +1,7 @@
 use Rattle.std.proofs.Common.{◌≡◌, ℕ, length, Option, lit<, ◌∙◌, sym, arith}
 use Rattle.std.proofs.lemmas.Bool.{eqb-true}
 use Rattle.promql_text.specs.Durations.{units, parts_nanos}
-use Rattle.promql_text.proofs.SaturatingParts.{nothing_yet, total_one, total_end}
+use Rattle.promql_text.proofs.durations.SaturatingParts.{nothing_yet, total_one, total_end}
 use Rattle.promql_text.proofs.duration.parts.Goals as goal
 
 pub loop-units-init : goal.loop-units-init

@@ -4,7 +4,7 @@ use Rattle.std.specs.Str.Parse.{AllDigits, digits_value_after}
 use Rattle.std.proofs.lemmas.List.{drop_more}
 use Rattle.std.proofs.lemmas.Str.{digit_value_digit}
 use Rattle.std.proofs.lemmas.Str.Parse.{digit_from_value}
-use Rattle.promql_text.proofs.Runs.{digit_value_below}
+use Rattle.promql_text.proofs.numerals.Runs.{digit_value_below}
 use Rattle.promql_text.proofs.duration.short_count.Goals as goal
 
 pub loop-b-preserved : goal.loop-b-preserved

@@ -2,8 +2,8 @@ use Rattle.std.proofs.Common.{◌≡◌, ℕ, ◌-◌, ◌*◌, ◌∷◌, [], L
 use Rattle.std.specs.Str.Parse.{digits_value}
 use Rattle.promql_text.specs.DecimalForm.{decimal_form}
 use Rattle.promql_text.specs.Durations.{nanos_of, parts_nanos, units}
-use Rattle.promql_text.proofs.Ends.{before_last}
-use Rattle.promql_text.proofs.SinglePart.{part_nanos, part_no_number}
+use Rattle.promql_text.proofs.worked.Ends.{before_last}
+use Rattle.promql_text.proofs.durations.SinglePart.{part_nanos, part_no_number}
 use Rattle.promql_text.proofs.duration.single_part.Goals as goal
 
 pub returns : goal.returns

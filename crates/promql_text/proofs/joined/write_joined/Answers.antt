@@ -1,6 +1,6 @@
 use Rattle.std.specs.Fmt.{formatter_spec}
-use Rattle.promql_text.proofs.Joins.{writes_what_it_displays}
-use Rattle.promql_text.proofs.AllOptions.{writes_what_it_styles}
+use Rattle.promql_text.proofs.writing.Joins.{writes_what_it_displays}
+use Rattle.promql_text.proofs.writing.AllOptions.{writes_what_it_styles}
 use Rattle.promql_text.proofs.joined.write_joined.Goals as goal
 
 pub returns : goal.returns

@@ -1,7 +1,7 @@
 use Rattle.std.proofs.Common.{refl}
 use Rattle.std.proofs.Output.{has_written_append, has_written_of_eq, has_written_styled_append, has_written_styled_of_eq}
-use Rattle.promql_text.proofs.Joins.{join_next, join_end}
-use Rattle.promql_text.proofs.AllOptions.{written_at_plain}
+use Rattle.promql_text.proofs.writing.Joins.{join_next, join_end}
+use Rattle.promql_text.proofs.writing.AllOptions.{written_at_plain}
 use Rattle.promql_text.proofs.joined.write_joined_by.Goals as goal
 
 pub loop-i-preserved : goal.loop-i-preserved

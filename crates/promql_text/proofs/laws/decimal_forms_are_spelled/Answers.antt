@@ -1,4 +1,4 @@
-use Rattle.promql_text.proofs.SpelledForms.{forms_spelled}
+use Rattle.promql_text.proofs.numerals.SpelledForms.{forms_spelled}
 use Rattle.promql_text.proofs.laws.decimal_forms_are_spelled.Goals as goal
 
 pub returns : goal.returns

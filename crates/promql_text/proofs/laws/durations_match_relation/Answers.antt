@@ -1,4 +1,4 @@
-use Rattle.promql_text.proofs.DurationRelation.{durations_told}
+use Rattle.promql_text.proofs.durations.DurationRelation.{durations_told}
 use Rattle.promql_text.proofs.laws.durations_match_relation.Goals as goal
 
 pub returns : goal.returns

@@ -1,4 +1,4 @@
-use Rattle.promql_text.proofs.ReadsDuration.{duration_reads}
+use Rattle.promql_text.proofs.durations.ReadsDuration.{duration_reads}
 use Rattle.promql_text.proofs.laws.durations_read_back.Goals as goal
 
 pub returns : goal.returns

@@ -1,4 +1,4 @@
-use Rattle.promql_text.proofs.OneForm.{one_form}
+use Rattle.promql_text.proofs.numbers.OneForm.{one_form}
 use Rattle.promql_text.proofs.laws.equal_values_are_one.Goals as goal
 
 pub returns : goal.returns

@@ -1,4 +1,4 @@
-use Rattle.promql_text.proofs.WorkedTexts.{worked_durations, worked_numbers}
+use Rattle.promql_text.proofs.worked.WorkedTexts.{worked_durations, worked_numbers}
 use Rattle.promql_text.proofs.laws.example_texts.Goals as goal
 
 pub returns-clause-durations : goal.returns-clause-durations

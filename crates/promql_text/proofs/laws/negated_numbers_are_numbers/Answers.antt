@@ -1,4 +1,4 @@
-use Rattle.promql_text.proofs.OneForm.{negated_in_form}
+use Rattle.promql_text.proofs.numbers.OneForm.{negated_in_form}
 use Rattle.promql_text.proofs.laws.negated_numbers_are_numbers.Goals as goal
 
 pub returns : goal.returns

@@ -1,4 +1,4 @@
-use Rattle.promql_text.proofs.SpelledNumerals.{numeral_spelled}
+use Rattle.promql_text.proofs.numerals.SpelledNumerals.{numeral_spelled}
 use Rattle.promql_text.proofs.laws.numerals_are_spelled.Goals as goal
 
 pub returns : goal.returns

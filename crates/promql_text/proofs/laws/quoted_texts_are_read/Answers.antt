@@ -1,4 +1,4 @@
-use Rattle.promql_text.proofs.QuotedTexts.{quoted_text_is_read}
+use Rattle.promql_text.proofs.quoting.QuotedTexts.{quoted_text_is_read}
 use Rattle.promql_text.proofs.laws.quoted_texts_are_read.Goals as goal
 
 pub returns : goal.returns

@@ -1,4 +1,4 @@
-use Rattle.promql_text.proofs.InForm.{read_in_form}
+use Rattle.promql_text.proofs.numbers.InForm.{read_in_form}
 use Rattle.promql_text.proofs.laws.read_numbers_are_numbers.Goals as goal
 
 pub returns : goal.returns

@@ -1,4 +1,4 @@
-use Rattle.promql_text.proofs.ShortNumbers.{seconds_exact}
+use Rattle.promql_text.proofs.numerals.ShortNumbers.{seconds_exact}
 use Rattle.promql_text.proofs.laws.seconds_are_exact.Goals as goal
 
 pub returns : goal.returns

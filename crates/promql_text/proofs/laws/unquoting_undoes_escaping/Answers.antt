@@ -1,4 +1,4 @@
-use Rattle.promql_text.proofs.Quotes.{unquoted_text-quoted}
+use Rattle.promql_text.proofs.quoting.Quotes.{unquoted_text-quoted}
 use Rattle.promql_text.proofs.laws.unquoting_undoes_escaping.Goals as goal
 
 pub returns : goal.returns

@@ -1,6 +1,6 @@
 use Rattle.std.proofs.Common.{◌-◌, ◌*◌, ◌^◌, ◌∙◌, ap, arith}
 use Rattle.promql_text.specs.Millis.{millis, round_half_up}
-use Rattle.promql_text.proofs.Quotients.{millis_of_places, millis_of_zeros, millis_if_short}
+use Rattle.promql_text.proofs.durations.Quotients.{millis_of_places, millis_of_zeros, millis_if_short}
 use Rattle.promql_text.proofs.millis.magnitude.Goals as goal
 
 pub returns-then-seconds-gt3 : goal.returns-then-seconds-gt3

@@ -1,9 +1,9 @@
 use Rattle.std.proofs.Common.{◌≡◌, ◌<◌, ◌%◌, ◌^◌, ◌∙◌, ap, arith}
 use Rattle.std.proofs.Math.Nat.{mod-lt}
 use Rattle.promql_text.specs.Millis as spec
-use Rattle.promql_text.proofs.Quotients.{round_down, round_up, round_none}
-use Rattle.promql_text.proofs.Points.{power_within}
-use Rattle.promql_text.proofs.Tens.{ten_pos}
+use Rattle.promql_text.proofs.durations.Quotients.{round_down, round_up, round_none}
+use Rattle.promql_text.proofs.numerals.Points.{power_within}
+use Rattle.promql_text.proofs.numbers.Tens.{ten_pos}
 use Rattle.promql_text.proofs.millis.round_quotient.Goals as goal
 
 pub returns-then-places-gt38-clause-value : goal.returns-then-places-gt38-clause-value

@@ -2,7 +2,7 @@ use Rattle.std.proofs.Common.{◌≡◌, ℕ, ◌+◌, ◌∙◌, ap, min, cond,
 use Rattle.promql_text.specs.DecimalForm.{Numeral, exponent_size, places}
 use Rattle.promql_text.specs.DecimalParts.{numeral_of}
 use Rattle.promql_text.specs.Numbers.{from_digits}
-use Rattle.promql_text.proofs.Finites.{capped_down, capped_up}
+use Rattle.promql_text.proofs.numbers.Finites.{capped_down, capped_up}
 use Rattle.promql_text.proofs.number_text.at_place.Goals as goal
 
 pub returns-then-numeral : goal.returns-then-numeral

@@ -1,5 +1,5 @@
 use Rattle.std.proofs.Common.{ℕ, List, arith}
-use Rattle.promql_text.proofs.ShortDecimals.{read_digit, room_after, room_first}
+use Rattle.promql_text.proofs.numerals.ShortDecimals.{read_digit, room_after, room_first}
 use Rattle.promql_text.proofs.number_text.digits_at_start.Goals as goal
 
 pub overflow_mul-number : goal.overflow_mul-number

@@ -5,8 +5,8 @@ use Rattle.promql_text.specs.DecimalForm.{Numeral}
 use Rattle.promql_text.specs.DecimalParts.{numeral_of}
 use Rattle.promql_text.specs.declared.number.Number.TheVariants as number
 use Rattle.promql_text.specs.declared.number.NumberFault.TheVariants as fault
-use Rattle.promql_text.proofs.Finites.{finite_long, finite_short}
-use Rattle.promql_text.proofs.Runs.{run_digits}
+use Rattle.promql_text.proofs.numbers.Finites.{finite_long, finite_short}
+use Rattle.promql_text.proofs.numerals.Runs.{run_digits}
 use Rattle.promql_text.proofs.number_text.finite.Goals as goal
 
 pub returns-in_default : goal.returns-in_default

@@ -1,7 +1,7 @@
 use Rattle.std.proofs.Common.{arith, ◌∙◌, sym}
 use Rattle.std.specs.Str.Iter.{chars_rest}
 use Rattle.std.proofs.lemmas.Str.{IsUtf8-past_char}
-use Rattle.promql_text.proofs.WhitespaceLemmas.{kept_char, kept_white, kept_end, kept_short}
+use Rattle.promql_text.proofs.numerals.WhitespaceLemmas.{kept_char, kept_white, kept_end, kept_short}
 use Rattle.promql_text.proofs.number_text.first_non_whitespace.Goals as goal
 
 pub returns-then-not-is_whitespace-clause-value : goal.returns-then-not-is_whitespace-clause-value

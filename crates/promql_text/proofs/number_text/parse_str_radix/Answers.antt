@@ -1,6 +1,6 @@
 use Rattle.std.proofs.Common.{sym, ap, ◌∙◌}
 use Rattle.promql_text.specs.NumberText.{number_of}
-use Rattle.promql_text.proofs.WhitespaceLemmas.{visible_whole}
+use Rattle.promql_text.proofs.numerals.WhitespaceLemmas.{visible_whole}
 use Rattle.promql_text.proofs.number_text.parse_str_radix.Goals as goal
 
 pub returns-then-is_visible : goal.returns-then-is_visible

@@ -2,7 +2,7 @@ use Rattle.std.proofs.Common.{◌≡◌, ◌≢◌, ℕ, ◌≤◌, List, length
 use Rattle.std.proofs.lemmas.Bool.Decides.{nat_tests}
 use Rattle.promql_text.specs.DecimalForm.{front}
 use Rattle.promql_text.specs.NumberText.{read_number}
-use Rattle.promql_text.proofs.ShortDecimals.{room_left, room_below, short_decimal, with_point}
+use Rattle.promql_text.proofs.numerals.ShortDecimals.{room_left, room_below, short_decimal, with_point}
 use Rattle.promql_text.proofs.number_text.short_decimal.Goals as goal
 
 pub digits_at_start-digits-requires : goal.digits_at_start-digits-requires

@@ -5,8 +5,8 @@ use Rattle.std.proofs.lemmas.List.{drop_more}
 use Rattle.std.proofs.lemmas.Str.{digit_value_digit}
 use Rattle.std.proofs.lemmas.Str.Parse.{digit_from_value}
 use Rattle.promql_text.specs.NumberText.{read_number}
-use Rattle.promql_text.proofs.Runs.{digit_value_below}
-use Rattle.promql_text.proofs.ShortNumbers.{digit_read, parsed_some}
+use Rattle.promql_text.proofs.numerals.Runs.{digit_value_below}
+use Rattle.promql_text.proofs.numerals.ShortNumbers.{digit_read, parsed_some}
 use Rattle.promql_text.proofs.number_text.short_whole.Goals as goal
 
 pub returns-in-len1-up : goal.returns-in-len1-up

@@ -2,8 +2,8 @@ use Rattle.std.proofs.Common.{◌≡◌, ℕ, ◌*◌, ◌^◌, subst, MatchOpti
 use Rattle.promql_text.specs.DecimalForm.{Numeral}
 use Rattle.promql_text.specs.DecimalParts.{numeral_of}
 use Rattle.promql_text.specs.Significands.{IsLong}
-use Rattle.promql_text.proofs.Finites.{nothing_yet, both_parts, long_whole}
-use Rattle.promql_text.proofs.Runs.{run_digits}
+use Rattle.promql_text.proofs.numbers.Finites.{nothing_yet, both_parts, long_whole}
+use Rattle.promql_text.proofs.numerals.Runs.{run_digits}
 use Rattle.promql_text.proofs.number_text.significand_of.Goals as goal
 
 pub returns-in_err-whole-clause-value : goal.returns-in_err-whole-clause-value

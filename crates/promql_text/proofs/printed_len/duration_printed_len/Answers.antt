@@ -1,5 +1,5 @@
 use Rattle.std.proofs.Common.{rules}
-use Rattle.promql_text.proofs.PrintedLengths.{whole_duration_at}
+use Rattle.promql_text.proofs.writing.PrintedLengths.{whole_duration_at}
 use Rattle.promql_text.proofs.printed_len.duration_printed_len.Goals as goal
 
 pub returns-then-nanos-eq0-2 : goal.returns-then-nanos-eq0-2

@@ -1,5 +1,5 @@
 use Rattle.std.proofs.Common.{length, ap, sym, ◌∙◌}
-use Rattle.promql_text.proofs.Escapes.{escaped_text-other}
+use Rattle.promql_text.proofs.quoting.Escapes.{escaped_text-other}
 use Rattle.promql_text.proofs.printed_len.escaped_len.Goals as goal
 
 pub returns-in-None : goal.returns-in-None

@@ -1,6 +1,6 @@
 use Rattle.std.proofs.Common.{arith, ◌-◌, ◌+◌}
-use Rattle.promql_text.proofs.Fractions.{ten_above}
-use Rattle.promql_text.proofs.PrintedLengths.{count_more, count_below, fraction_width_end, fraction_left}
+use Rattle.promql_text.proofs.numerals.Fractions.{ten_above}
+use Rattle.promql_text.proofs.writing.PrintedLengths.{count_more, count_below, fraction_width_end, fraction_left}
 use Rattle.promql_text.proofs.printed_len.fraction_len.Goals as goal
 
 pub nonzero_rem-rest : goal.nonzero_rem-rest

@@ -1,6 +1,6 @@
 use Rattle.std.proofs.Common.{◌/◌, ◌^◌, ap, sym, ◌∙◌}
 use Rattle.promql_text.specs.Numbers.{digit_count}
-use Rattle.promql_text.proofs.PrintedLengths.{length_places_of}
+use Rattle.promql_text.proofs.writing.PrintedLengths.{length_places_of}
 use Rattle.promql_text.proofs.printed_len.magnitude_len.Goals as goal
 
 pub returns-clause-value : goal.returns-clause-value

@@ -2,8 +2,8 @@ use Rattle.std.proofs.Common.{◌≡◌, arith, ap, length, ◌∙◌, length-ap
 use Rattle.std.specs.Char.{encode_utf8}
 use Rattle.std.specs.Str.Iter.{chars_rest}
 use Rattle.promql_text.specs.Quoting.{escaped_text}
-use Rattle.promql_text.proofs.Escapes.{escaped_text-append, escaped_text-empty}
-use Rattle.promql_text.proofs.PrintedLengths.{quoted_length}
+use Rattle.promql_text.proofs.quoting.Escapes.{escaped_text-append, escaped_text-empty}
+use Rattle.promql_text.proofs.writing.PrintedLengths.{quoted_length}
 use Rattle.promql_text.proofs.printed_len.quoted_printed_len.Goals as goal
 
 pub loop-c-init : goal.loop-c-init

@@ -5,8 +5,8 @@ use Rattle.std.proofs.lemmas.Str.{encode_ascii}
 use Rattle.promql_text.specs.Texts.{Text}
 use Rattle.promql_text.specs.Quoting.{escape, hexadecimal, octal}
 use Rattle.promql_text.specs.QuoteReaders.{ReadsEscape}
-use Rattle.promql_text.proofs.Quotes.{escape-none, escape-own, escape-x, escape-u, escape-U, escape-octal, quote_low}
-use Rattle.promql_text.proofs.QuotedCharacters.{reads_digits, reads_letter}
+use Rattle.promql_text.proofs.quoting.Quotes.{escape-none, escape-own, escape-x, escape-u, escape-U, escape-octal, quote_low}
+use Rattle.promql_text.proofs.quoting.QuotedCharacters.{reads_digits, reads_letter}
 use Rattle.promql_text.proofs.quote.escape.Goals as goal
 use Rattle.promql_text.proofs.quote.escape.Goals.{in_default-via-then-first-lt48, in_default-via-else-first-lt48+else-first-lt56}
 

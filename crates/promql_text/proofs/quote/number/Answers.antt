@@ -2,7 +2,7 @@ use Rattle.std.proofs.Common.{ℕ, ◌+◌, ◌-◌, ◌*◌, ◌<◌, ◌≤◌
 use Rattle.std.specs.Char.{digit_value}
 use Rattle.std.specs.Str.Iter.{chars_rest}
 use Rattle.promql_text.specs.Quoting.{number}
-use Rattle.promql_text.proofs.Quotes.{more_left, room, room_now, number-digit, number-other, number-end, drop-digit}
+use Rattle.promql_text.proofs.quoting.Quotes.{more_left, room, room_now, number-digit, number-other, number-end, drop-digit}
 use Rattle.promql_text.proofs.quote.number.Goals as goal
 
 pub overflow_mul-value : goal.overflow_mul-value

@@ -1,6 +1,6 @@
 use Rattle.std.proofs.Common.{sym}
 use Rattle.std.specs.Str.Iter.{chars_rest}
-use Rattle.promql_text.proofs.Quotes.{unquoted_text-none, unquoted_text-quote, unquoted_text-other}
+use Rattle.promql_text.proofs.quoting.Quotes.{unquoted_text-none, unquoted_text-quote, unquoted_text-other}
 use Rattle.promql_text.proofs.quote.opening.Goals as goal
 
 pub returns-in_err-quote : goal.returns-in_err-quote

@@ -1,7 +1,7 @@
 use Rattle.std.proofs.Common.{◌≡◌, ℕ, ◌+◌, ◌-◌, List, length, take, drop, sym, ap, ◌∙◌, arith}
 use Rattle.std.proofs.lemmas.List.{length-take-le, length-drop}
 use Rattle.promql_text.specs.Quoting.{unquoted_text}
-use Rattle.promql_text.proofs.PlainQuotes.{cut_out, unquoted_between}
+use Rattle.promql_text.proofs.quoting.PlainQuotes.{cut_out, unquoted_between}
 use Rattle.promql_text.proofs.quote.plain_body.Goals as goal
 
 pub returns : goal.returns

@@ -1,6 +1,6 @@
 use Rattle.std.proofs.Common.{◌∙◌, rules}
 use Rattle.std.specs.Str.Iter.{chars_rest}
-use Rattle.promql_text.proofs.QuotedCharacters.{reads_between_backticks, reads_itself, reads_escape}
+use Rattle.promql_text.proofs.quoting.QuotedCharacters.{reads_between_backticks, reads_itself, reads_escape}
 use Rattle.promql_text.proofs.quote.read_spelling.Goals as goal
 
 pub returns-then-quote-eq96-clause-value : goal.returns-then-quote-eq96-clause-value

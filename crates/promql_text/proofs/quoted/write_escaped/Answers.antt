@@ -2,8 +2,8 @@ use Rattle.std.proofs.Common.{refl, ap, ◌∙◌}
 use Rattle.std.specs.Char.{encode_utf8}
 use Rattle.std.specs.Str.Iter.{chars_rest}
 use Rattle.promql_text.specs.Quoting.{escaped_text}
-use Rattle.promql_text.proofs.Escapes.{escaped_text-append, escaped_text-empty}
-use Rattle.promql_text.proofs.Writing.{writing_flush, writing_start, writing_more, writing_end}
+use Rattle.promql_text.proofs.quoting.Escapes.{escaped_text-append, escaped_text-empty}
+use Rattle.promql_text.proofs.writing.Writing.{writing_flush, writing_start, writing_more, writing_end}
 use Rattle.promql_text.proofs.quoted.write_escaped.Goals as goal
 
 pub loop-c-init : goal.loop-c-init

@@ -1,7 +1,7 @@
 use Rattle.std.specs.Fmt.{IsFlush}
 use Rattle.std.specs.Str.Iter.{chars_rest}
 use Rattle.promql_text.specs.Quoting.{escaped_text}
-use Rattle.promql_text.proofs.Writing.{Writing}
+use Rattle.promql_text.proofs.writing.Writing.{Writing}
 use Rattle.promql_text.proofs.quoted.write_escaped.Given as goal
 
 -- what is written, and the escape of what is left, are the escape of all

@@ -1,6 +1,6 @@
 use Rattle.std.proofs.Common.{sym}
 use Rattle.std.proofs.Output.{has_written_styled_of_eq}
-use Rattle.promql_text.proofs.Escapes.{escaped_text-other}
+use Rattle.promql_text.proofs.quoting.Escapes.{escaped_text-other}
 use Rattle.promql_text.proofs.quoted.write_escaped_char.Goals as goal
 
 pub returns-in-None : goal.returns-in-None

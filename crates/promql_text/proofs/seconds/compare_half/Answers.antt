@@ -1,6 +1,6 @@
 use Rattle.std.proofs.Common.{◌<◌, subst, arith}
 use Rattle.promql_text.specs.Rounding.{ComparesHalf}
-use Rattle.promql_text.proofs.DigitsRead.{below_more, half_still, half_passed, above_more}
+use Rattle.promql_text.proofs.numerals.DigitsRead.{below_more, half_still, half_passed, above_more}
 use Rattle.promql_text.proofs.seconds.compare_half.Goals as goal
 
 pub returns-in-Below : goal.returns-in-Below

@@ -3,8 +3,8 @@ use Rattle.std.specs.Str.Parse.{AllDigits}
 use Rattle.promql_text.specs.Texts.{Text}
 use Rattle.promql_text.specs.DecimalForm.{digit_run}
 use Rattle.promql_text.specs.DecimalParts.{numeral_of}
-use Rattle.promql_text.proofs.Runs.{run_digits}
-use Rattle.promql_text.proofs.PointAmong.{digits_append, second_none, second_some}
+use Rattle.promql_text.proofs.numerals.Runs.{run_digits}
+use Rattle.promql_text.proofs.durations.PointAmong.{digits_append, second_none, second_some}
 use Rattle.promql_text.proofs.seconds.nanoseconds.Goals as goal
 
 pub returns-in_default : goal.returns-in_default

@@ -1,7 +1,7 @@
 use Rattle.std.proofs.Common.{◌≡◌, ◌∙◌, take, sym, ap, subst}
 use Rattle.std.specs.Str.Parse.{AllDigits}
 use Rattle.promql_text.specs.DecimalForm.{digit_run}
-use Rattle.promql_text.proofs.Runs.{run_digits, take_run}
+use Rattle.promql_text.proofs.numerals.Runs.{run_digits, take_run}
 use Rattle.promql_text.proofs.seconds.run.Goals as goal
 use Rattle.promql_text.proofs.seconds.run.Goals.{After-run_len}
 

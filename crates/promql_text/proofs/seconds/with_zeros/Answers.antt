@@ -1,6 +1,6 @@
 use Rattle.std.proofs.Common.{◌*◌, ◌^◌, ◌∙◌, ap}
 use Rattle.promql_text.specs.DurationReaders.{cap_u128}
-use Rattle.promql_text.proofs.RoundedQuotients.{capped_zeros}
+use Rattle.promql_text.proofs.durations.RoundedQuotients.{capped_zeros}
 use Rattle.promql_text.proofs.seconds.with_zeros.Goals as goal
 
 pub returns : goal.returns

@@ -1,5 +1,5 @@
 use Rattle.std.proofs.Common.{arith, ◌∙◌, ap, ◌*◌, sym}
-use Rattle.promql_text.proofs.Tens.{shift_le, times_ten}
+use Rattle.promql_text.proofs.numbers.Tens.{shift_le, times_ten}
 use Rattle.promql_text.proofs.significand.append_zeros.Goals as goal
 
 pub returns-then-number : goal.returns-then-number

@@ -1,6 +1,6 @@
 use Rattle.std.proofs.Common.{arith}
-use Rattle.promql_text.proofs.Tens.{long_run}
-use Rattle.promql_text.proofs.Runs.{digit_run_digit, digit_run_other}
+use Rattle.promql_text.proofs.numbers.Tens.{long_run}
+use Rattle.promql_text.proofs.numerals.Runs.{digit_run_digit, digit_run_other}
 use Rattle.promql_text.proofs.significand.read_digits.Goals as goal
 
 pub loop-c-preserved : goal.loop-c-preserved

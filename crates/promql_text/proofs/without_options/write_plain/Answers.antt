@@ -1,6 +1,6 @@
 use Rattle.std.proofs.Common.{◌∙◌, ap, rules, subst₂, sym}
 use Rattle.std.specs.Fmt.{HasWrittenStyled, IsFlush, formatter_writer}
-use Rattle.promql_text.proofs.AllOptions.{hands_on, if_known}
+use Rattle.promql_text.proofs.writing.AllOptions.{hands_on, if_known}
 use Rattle.promql_text.proofs.without_options.write_plain.Goals as goal
 
 pub returns : goal.returns

@@ -1,5 +1,5 @@
 use Rattle.std.proofs.Common.{◌∙◌, arith}
-use Rattle.promql_token.proofs.WordRankTable.{word_ranks}
+use Rattle.promql_token.proofs.words.WordRankTable.{word_ranks}
 use Rattle.promql_token.proofs.class.word_rank.Goals as goal
 
 pub returns : goal.returns

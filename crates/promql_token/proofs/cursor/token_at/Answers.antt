@@ -1,5 +1,5 @@
 use Rattle.std.proofs.Common.{rules}
-use Rattle.promql_token.proofs.Items.{Here, here, token_ends, ends_here, token_place, fault_place, token_value, fault_value}
+use Rattle.promql_token.proofs.one_reading.Items.{Here, here, token_ends, ends_here, token_place, fault_place, token_value, fault_value}
 use Rattle.promql_token.proofs.cursor.token_at.Goals as goal
 use Rattle.promql_token.proofs.cursor.token_at.Goals.{After-scan_token}
 

@@ -6,7 +6,7 @@ use Rattle.promql_token.specs.declared.class.Class.TheVariants as class
 use Rattle.promql_token.specs.Classes.{is_letter, end_of_run}
 use Rattle.promql_token.specs.Front.{IsFrontWord}
 use Rattle.promql_token.specs.TokenScanning.{word_id, braces_id, word, word_in_braces}
-use Rattle.promql_token.proofs.FrontTokens.{front_word_outside, front_word_in_braces}
+use Rattle.promql_token.proofs.cursors.FrontTokens.{front_word_outside, front_word_in_braces}
 use Rattle.promql_token.proofs.front.front_word.Goals as goal
 
 pub returns-in-Outside : goal.returns-in-Outside

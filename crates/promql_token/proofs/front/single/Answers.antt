@@ -1,7 +1,7 @@
 use Rattle.std.proofs.Common.{refl, rules, sym, ap, ◌∙◌}
 use Rattle.promql_token.specs.Front.{begins_trivia}
 use Rattle.promql_token.specs.TokenScanning.{in_brackets}
-use Rattle.promql_token.proofs.FrontTokens.{front_token}
+use Rattle.promql_token.proofs.cursors.FrontTokens.{front_token}
 use Rattle.promql_token.proofs.front.single.Goals as goal
 
 pub returns-in_ok-id-in-Outside-clause-front : goal.returns-in_ok-id-in-Outside-clause-front

@@ -3,7 +3,7 @@ use Rattle.std.specs.Prelude.{◌==◌}
 use Rattle.std.specs.Char.{to_ascii_lowercase}
 use Rattle.promql_token.specs.Ids.{keywords, lookup}
 use Rattle.promql_token.specs.WordCases.{same_word}
-use Rattle.promql_token.proofs.Keywords.{among_letter}
+use Rattle.promql_token.proofs.words.Keywords.{among_letter}
 use Rattle.promql_token.proofs.ids.find_keyword.Goals as goal
 
 pub returns : goal.returns

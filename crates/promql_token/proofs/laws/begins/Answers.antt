@@ -1,4 +1,4 @@
-use Rattle.promql_token.proofs.ScannedForms.{begins, faults}
+use Rattle.promql_token.proofs.beginnings.ScannedForms.{begins, faults}
 use Rattle.promql_token.proofs.laws.begins.Goals as goal
 
 pub returns : goal.returns

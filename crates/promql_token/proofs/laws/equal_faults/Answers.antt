@@ -1,4 +1,4 @@
-use Rattle.promql_token.proofs.SameTokens.{kind_Decides, fault_Decides, error_Decides}
+use Rattle.promql_token.proofs.cursors.SameTokens.{kind_Decides, fault_Decides, error_Decides}
 use Rattle.promql_token.proofs.laws.equal_faults.Goals as goal
 
 pub returns : goal.returns

@@ -1,4 +1,4 @@
-use Rattle.promql_token.proofs.SameTokens.{lexeme_Decides}
+use Rattle.promql_token.proofs.cursors.SameTokens.{lexeme_Decides}
 use Rattle.promql_token.proofs.laws.equal_lexemes.Goals as goal
 
 pub returns : goal.returns

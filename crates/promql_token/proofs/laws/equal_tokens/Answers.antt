@@ -1,4 +1,4 @@
-use Rattle.promql_token.proofs.SameTokens.{token_type_Decides, token_Decides}
+use Rattle.promql_token.proofs.cursors.SameTokens.{token_type_Decides, token_Decides}
 use Rattle.promql_token.proofs.laws.equal_tokens.Goals as goal
 
 pub returns : goal.returns

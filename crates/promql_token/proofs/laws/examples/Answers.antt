@@ -1,4 +1,4 @@
-use Rattle.promql_token.proofs.WorkedTokens.{read_faults, read_tokens, worked_faults, worked_tokens}
+use Rattle.promql_token.proofs.cursors.WorkedTokens.{read_faults, read_tokens, worked_faults, worked_tokens}
 use Rattle.promql_token.proofs.laws.examples.Goals as goal
 
 pub returns : goal.returns

@@ -1,4 +1,4 @@
-use Rattle.promql_token.proofs.OneReading.{only_tokens, only_steps}
+use Rattle.promql_token.proofs.one_reading.OneReading.{only_tokens, only_steps}
 use Rattle.promql_token.proofs.laws.only_tokens.Goals as goal
 
 pub returns : goal.returns

@@ -1,4 +1,4 @@
-use Rattle.promql_token.proofs.SpansToFault.{spans_to_fault}
+use Rattle.promql_token.proofs.one_reading.SpansToFault.{spans_to_fault}
 use Rattle.promql_token.proofs.laws.spans_to_fault.Goals as goal
 
 pub returns : goal.returns

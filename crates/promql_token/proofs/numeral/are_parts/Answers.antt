@@ -2,7 +2,7 @@ use Rattle.std.proofs.Common.{◌≤◌, ◌∙◌, sym, ap, length, arith}
 use Rattle.std.proofs.lemmas.Grind.{common_steps}
 use Rattle.std.proofs.lemmas.List.{take_rest}
 use Rattle.promql_token.specs.TokenScanning.{parts_from}
-use Rattle.promql_token.proofs.LaterDurationParts.{parts_go, parts_stop}
+use Rattle.promql_token.proofs.printed.LaterDurationParts.{parts_go, parts_stop}
 use Rattle.promql_token.proofs.numeral.are_parts.Goals as goal
 
 pub returns-then-len-eq0 : goal.returns-then-len-eq0

@@ -1,8 +1,8 @@
 use Rattle.std.proofs.Common.{◌∙◌, get_or, sym, ap}
 use Rattle.std.specs.Prelude.{◌==◌, ◌||◌}
 use Rattle.promql_token.specs.Vocabulary.{is_exponent}
-use Rattle.promql_token.proofs.Numerals.{digits_alone}
-use Rattle.promql_token.proofs.TestsAndCounts.{or_false}
+use Rattle.promql_token.proofs.values.Numerals.{digits_alone}
+use Rattle.promql_token.proofs.cursors.TestsAndCounts.{or_false}
 use Rattle.promql_token.proofs.numeral.number_end.Goals as goal
 
 pub returns-else-may_go_on-clause-value : goal.returns-else-may_go_on-clause-value

@@ -4,7 +4,7 @@ use Rattle.std.proofs.lemmas.Bool.{ne_eqb}
 use Rattle.std.proofs.lemmas.List.{take_rest}
 use Rattle.promql_token.specs.declared.ids.TheConstants.{T_METRIC_IDENTIFIER}
 use Rattle.promql_token.specs.TokenScanning.{Scanned, word_id}
-use Rattle.promql_token.proofs.Words.{no_colon, word_with_colon, word_without_colon}
+use Rattle.promql_token.proofs.words.Words.{no_colon, word_with_colon, word_without_colon}
 use Rattle.promql_token.proofs.word.word_by_name.Goals as goal
 
 pub word_id-requires : goal.word_id-requires

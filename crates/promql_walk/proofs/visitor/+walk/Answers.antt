@@ -1,7 +1,7 @@
 use Rattle.std.proofs.Common.{true, Ok, refl, ap, ◌∙◌, sym, subst}
 use Rattle.std.proofs.lemmas.List.{drop_all}
 use Rattle.promql_ast.specs.View.{tree_of, option_tree, trees_of, children_of, aggregate_tree, call_tree, extension_tree}
-use Rattle.promql_ast.proofs.NodeParts.{tree_of_aggregate, tree_of_call, tree_of_extension}
+use Rattle.promql_ast.proofs.nodes.NodeParts.{tree_of_aggregate, tree_of_call, tree_of_extension}
 use Rattle.promql_json.specs.Events.{events, param_events, all_events}
 use Rattle.promql_walk.specs.WalkSteps.{IdlesOr, Visit, WalksAlong}
 use Rattle.promql_walk.proofs.Walks.{whole, ends_inside, ends_before, walked_both, walked_stops, walked_as, walked_below, next_goes, next_ends, drop_step, args_events, nodes_events}

@@ -8,7 +8,7 @@ use Rattle.promql_ast.specs.Shifts.{shift_of, moment_of}
 use Rattle.promql_ast.specs.Height.{height, greatest_height}
 use Rattle.promql_ast.specs.Tree.{aggregate, unary, paren, subquery, call, extension, first_tree, no_trees}
 use Rattle.promql_ast.specs.View.{tree_of, trees_of, children_of, option_tree, aggregate_tree, binary_tree, call_tree, extension_tree}
-use Rattle.promql_ast.proofs.NodeParts.{tree_of_aggregate, tree_of_call, tree_of_extension}
+use Rattle.promql_ast.proofs.nodes.NodeParts.{tree_of_aggregate, tree_of_call, tree_of_extension}
 use Rattle.promql_walk.specs.Changes.{EditsOr}
 use Rattle.promql_walk.proofs.Changed.{before_as, below_as, through_as, one, on_as, here_as, leaf_as, same, same_below, same_each, from_below, one_no_higher, each_more, each_ends, each_all}
 use Rattle.promql_walk.proofs.visitor_mut.+change.Goals as goal

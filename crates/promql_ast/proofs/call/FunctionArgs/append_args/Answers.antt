@@ -1,7 +1,7 @@
 use Rattle.std.proofs.Common.{◌∙◌, ap}
 use Rattle.promql_ast.specs.Arguments.{append_tree}
 use Rattle.promql_ast.specs.View.{tree_of, trees_of}
-use Rattle.promql_ast.proofs.Args.{appended_trees}
+use Rattle.promql_ast.proofs.nodes.Args.{appended_trees}
 use Rattle.promql_ast.proofs.call.FunctionArgs.append_args.Goals as goal
 
 pub returns : goal.returns

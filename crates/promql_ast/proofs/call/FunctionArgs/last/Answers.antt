@@ -1,6 +1,6 @@
 use Rattle.std.proofs.Common.{◌∙◌, sym, ap, length, slice_get, Some, ◌-◌}
 use Rattle.promql_ast.specs.View.{tree_of}
-use Rattle.promql_ast.proofs.Args.{last_at}
+use Rattle.promql_ast.proofs.nodes.Args.{last_at}
 use Rattle.promql_ast.proofs.call.FunctionArgs.last.Goals as goal
 
 pub returns-in-Some : goal.returns-in-Some

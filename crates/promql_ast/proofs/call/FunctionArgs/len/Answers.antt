@@ -1,6 +1,6 @@
 use Rattle.std.proofs.Common.{◌∙◌, ap, length}
 use Rattle.promql_ast.specs.View.{tree_of}
-use Rattle.promql_ast.proofs.Args.{count_trees}
+use Rattle.promql_ast.proofs.nodes.Args.{count_trees}
 use Rattle.promql_ast.proofs.call.FunctionArgs.len.Goals as goal
 
 pub returns : goal.returns

@@ -1,6 +1,6 @@
 use Rattle.std.proofs.Common.{arith}
 use Rattle.std.proofs.lemmas.Grind.{common_steps}
-use Rattle.promql_ast.proofs.NodeParts.{tree_of_aggregate, tree_of_call}
+use Rattle.promql_ast.proofs.nodes.NodeParts.{tree_of_aggregate, tree_of_call}
 use Rattle.promql_ast.proofs.expr.Expr.check.Goals as goal
 
 pub returns-in-Aggregate-clause-check_tree : goal.returns-in-Aggregate-clause-check_tree

@@ -4,8 +4,8 @@ use Rattle.promql_token.specs.Ids.{is_aggregator_with_param}
 use Rattle.promql_kind.specs.ModifierViews.{clause_of}
 use Rattle.promql_ast.specs.Arguments.{count}
 use Rattle.promql_ast.specs.View.{tree_of, trees_of}
-use Rattle.promql_ast.proofs.ArgCounts.{miscounted_alone, miscounted_with}
-use Rattle.promql_ast.proofs.Args.{count_more}
+use Rattle.promql_ast.proofs.checking.ArgCounts.{miscounted_alone, miscounted_with}
+use Rattle.promql_ast.proofs.nodes.Args.{count_more}
 use Rattle.promql_ast.proofs.expr.Expr.new_aggregate_expr.Goals.{then-is_aggregator_with_param, else-is_aggregator_with_param}
 use Rattle.promql_ast.proofs.expr.Expr.new_aggregate_expr.Goals as goal
 

@@ -1,4 +1,4 @@
-use Rattle.promql_ast.proofs.NodeParts.{tree_of_call}
+use Rattle.promql_ast.proofs.nodes.NodeParts.{tree_of_call}
 use Rattle.promql_ast.proofs.expr.Expr.new_call.Goals as goal
 
 pub returns : goal.returns

@@ -1,4 +1,4 @@
-use Rattle.promql_ast.proofs.Fallbacks.{ranged_other, rejects}
+use Rattle.promql_ast.proofs.checking.Fallbacks.{ranged_other, rejects}
 use Rattle.promql_ast.specs.declared.fault.NodeFault.TheVariants.{RangeBase}
 use Rattle.promql_ast.proofs.expr.Expr.new_matrix_selector.Goals as goal
 

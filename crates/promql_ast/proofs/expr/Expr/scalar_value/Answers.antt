@@ -1,4 +1,4 @@
-use Rattle.promql_ast.proofs.Fallbacks.{no_scalar}
+use Rattle.promql_ast.proofs.checking.Fallbacks.{no_scalar}
 use Rattle.promql_ast.proofs.expr.Expr.scalar_value.Goals as goal
 
 pub returns-in_default : goal.returns-in_default

@@ -1,6 +1,6 @@
 use Rattle.std.proofs.Common.{refl, arith}
 use Rattle.std.proofs.lemmas.Grind.{common_steps}
-use Rattle.promql_ast.proofs.Fallbacks.{at_other}
+use Rattle.promql_ast.proofs.checking.Fallbacks.{at_other}
 use Rattle.promql_ast.proofs.expr.Expr.set_at.Goals as goal
 
 pub returns-in_default : goal.returns-in_default

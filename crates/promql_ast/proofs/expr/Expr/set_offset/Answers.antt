@@ -1,6 +1,6 @@
 use Rattle.std.proofs.Common.{refl, arith}
 use Rattle.std.proofs.lemmas.Grind.{common_steps}
-use Rattle.promql_ast.proofs.Fallbacks.{offset_other}
+use Rattle.promql_ast.proofs.checking.Fallbacks.{offset_other}
 use Rattle.promql_ast.proofs.expr.Expr.set_offset.Goals as goal
 
 pub returns-in_default : goal.returns-in_default

@@ -1,5 +1,5 @@
 use Rattle.std.proofs.Common.{refl}
-use Rattle.promql_ast.proofs.Counted.{counted_text, some_weaker}
+use Rattle.promql_ast.proofs.layouts.Counted.{counted_text, some_weaker}
 use Rattle.promql_ast.proofs.layout.display_len.displayed_len.Goals as goal
 
 pub returns : goal.returns

@@ -1,8 +1,8 @@
 use Rattle.std.proofs.Common.{◌∙◌, ◌++◌, Ok, ap}
 use Rattle.promql_ast.specs.Lines.{indent}
 use Rattle.promql_ast.specs.declared.layout.prettier.PrettyError.{PrettyError}
-use Rattle.promql_ast.proofs.Counted.{some_weaker}
-use Rattle.promql_ast.proofs.Indents.{keeps_indented}
+use Rattle.promql_ast.proofs.layouts.Counted.{some_weaker}
+use Rattle.promql_ast.proofs.layouts.Indents.{keeps_indented}
 use Rattle.promql_ast.proofs.layout.indent.indented_line.Goals as goal
 
 pub returns-clause-keeps : goal.returns-clause-keeps

@@ -1,5 +1,5 @@
 use Rattle.std.proofs.Common.{◌++◌, string_bytes, ap, ◌∙◌}
-use Rattle.promql_ast.proofs.Pushes.{without_indent_matches}
+use Rattle.promql_ast.proofs.layouts.Pushes.{without_indent_matches}
 use Rattle.promql_ast.proofs.layout.indent.push_without_indent.Goals as goal
 
 pub returns : goal.returns

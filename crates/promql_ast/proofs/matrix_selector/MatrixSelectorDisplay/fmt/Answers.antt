@@ -1,5 +1,5 @@
 use Rattle.std.proofs.Common.{arith}
-use Rattle.promql_text.proofs.AllOptions.{styled, writes_at_plain}
+use Rattle.promql_text.proofs.writing.AllOptions.{styled, writes_at_plain}
 use Rattle.promql_ast.proofs.matrix_selector.MatrixSelectorDisplay.fmt.Goals as goal
 
 pub returns-clause-styled : goal.returns-clause-styled

@@ -1,5 +1,5 @@
 use Rattle.std.proofs.Common.{arith}
-use Rattle.promql_text.proofs.AllOptions.{styled, writes_at_plain}
+use Rattle.promql_text.proofs.writing.AllOptions.{styled, writes_at_plain}
 use Rattle.promql_ast.proofs.offset.OffsetDisplay.fmt.Goals as goal
 
 pub returns-in_ok-write_str-in-Neg-clause-styled : goal.returns-in_ok-write_str-in-Neg-clause-styled

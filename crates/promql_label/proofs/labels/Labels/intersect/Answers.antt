@@ -2,7 +2,7 @@ use Rattle.std.proofs.Common.{◌≡◌, ◌+◌, ◌∙◌, ◌++◌, ◌∷◌
 use Rattle.std.proofs.lemmas.List.{map_more}
 use Rattle.promql_text.specs.Texts.{Text}
 use Rattle.promql_label.specs.Labels.{common, is_among, labels_of}
-use Rattle.promql_label.proofs.CommonLabels.{common-kept, common-not_there, common-seen}
+use Rattle.promql_label.proofs.label_lists.CommonLabels.{common-kept, common-not_there, common-seen}
 use Rattle.promql_label.proofs.labels.Labels.intersect.Goals as goal
 use Rattle.promql_label.proofs.labels.Labels.intersect.Goals.{then-contains+then-not-contains+in_ok-from_str+in_ok-both, else-contains, else-contains-via-then-contains+else-not-contains, else-contains-via-else-contains}
 

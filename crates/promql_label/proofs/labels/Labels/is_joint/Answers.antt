@@ -1,6 +1,6 @@
 use Rattle.std.proofs.Common.{◌∙◌, sym}
 use Rattle.promql_label.specs.Labels.{labels_of}
-use Rattle.promql_label.proofs.CommonLabels.{joint-common}
+use Rattle.promql_label.proofs.label_lists.CommonLabels.{joint-common}
 use Rattle.promql_label.proofs.labels.Labels.is_joint.Goals as goal
 
 pub returns-clause-common : goal.returns-clause-common

@@ -1,8 +1,8 @@
 use Rattle.std.proofs.Common.{◌∙◌, codes, string_bytes, map, ap}
 use Rattle.promql_text.specs.Texts.{joined_text}
 use Rattle.promql_text.specs.PrintedLen.{printed_len}
-use Rattle.promql_text.proofs.Joins.{join_end_of}
-use Rattle.promql_text.proofs.PrintedLengths.{joined_len_next}
+use Rattle.promql_text.proofs.writing.Joins.{join_end_of}
+use Rattle.promql_text.proofs.writing.PrintedLengths.{joined_len_next}
 use Rattle.promql_label.specs.Labels.{label_text}
 use Rattle.promql_label.proofs.labels.Labels.printed_len.Goals as goal
 

@@ -2,7 +2,7 @@ use Rattle.std.proofs.Common.{◌∙◌, codes, string_bytes, map, sym, ap}
 use Rattle.std.proofs.Output.{has_written_styled_of_eq}
 use Rattle.std.proofs.lemmas.Simd.{map-map}
 use Rattle.promql_label.specs.Labels.{label_text}
-use Rattle.promql_text.proofs.AllOptions.{writes_at_plain}
+use Rattle.promql_text.proofs.writing.AllOptions.{writes_at_plain}
 use Rattle.promql_text.specs.Texts.{joined_text}
 use Rattle.promql_label.proofs.labels.LabelsDisplay.fmt.Goals as goal
 

@@ -1,5 +1,5 @@
 use Rattle.std.proofs.Common.{sym, ◌∙◌}
-use Rattle.promql_label.proofs.MatcherSearch.{first_value_here, first_value_past}
+use Rattle.promql_label.proofs.label_lists.MatcherSearch.{first_value_here, first_value_past}
 use Rattle.promql_label.proofs.matchers.Matchers.find_matcher_value.Goals as goal
 
 pub loop-group-preserved : goal.loop-group-preserved

@@ -1,7 +1,7 @@
 use Rattle.std.proofs.Common.{◌≡◌, find, option_map}
 use Rattle.promql_label.specs.PlainMatchers.{found_value, is_of, value_of}
 use Rattle.promql_label.specs.MatcherViews.{plain_matchers_of}
-use Rattle.promql_label.proofs.MatcherSearch.{held_from}
+use Rattle.promql_label.proofs.label_lists.MatcherSearch.{held_from}
 use Rattle.promql_label.proofs.matchers.Matchers.find_matcher_value.Given as goal
 
 abbrev pub invariant-loop-group : goal.invariant-loop-group

@@ -1,7 +1,7 @@
 use Rattle.std.proofs.Common.{◌≡◌, ◌++◌, map, filter}
 use Rattle.promql_label.specs.PlainMatchers.{find_plain, is_of}
 use Rattle.promql_label.specs.MatcherViews.{plain_matcher_of, plain_matchers_of}
-use Rattle.promql_label.proofs.MatcherSearch.{held_from}
+use Rattle.promql_label.proofs.label_lists.MatcherSearch.{held_from}
 use Rattle.promql_label.proofs.matchers.Matchers.find_matchers.Given as goal
 
 abbrev pub invariant-loop-group : goal.invariant-loop-group

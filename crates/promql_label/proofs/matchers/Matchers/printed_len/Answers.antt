@@ -4,7 +4,7 @@ use Rattle.promql_text.specs.Texts.{joined_text}
 use Rattle.promql_text.specs.PrintedLen.{printed_len}
 use Rattle.promql_label.specs.PlainMatchers.{group_text, matcher_text}
 use Rattle.promql_label.specs.MatcherViews.{plain_matcher_of}
-use Rattle.promql_label.proofs.LabelPrintedLen.{plain_len, grouped_len}
+use Rattle.promql_label.proofs.label_lists.LabelPrintedLen.{plain_len, grouped_len}
 use Rattle.promql_label.proofs.matchers.Matchers.printed_len.Goals as goal
 
 pub returns-then-is_empty : goal.returns-then-is_empty

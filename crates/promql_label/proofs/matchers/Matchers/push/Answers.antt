@@ -4,7 +4,7 @@ use Rattle.std.specs.declared.alloc.Global.{Global}
 use Rattle.std.proofs.lemmas.List.{map-append}
 use Rattle.promql_label.specs.declared.matcher.Matcher.{Matcher}
 use Rattle.promql_label.specs.MatcherViews.{plain_matcher_of}
-use Rattle.promql_label.proofs.Groups.{appended_set, kept_set}
+use Rattle.promql_label.proofs.order.Groups.{appended_set, kept_set}
 use Rattle.promql_label.proofs.matchers.Matchers.push.Goals as goal
 
 pub returns-in_ok-push-in-Some-clause-appended : goal.returns-in_ok-push-in-Some-clause-appended

@@ -3,7 +3,7 @@ use Rattle.std.proofs.lemmas.List.Sorted.{answers_always}
 use Rattle.std.proofs.lemmas.Result.{on_ok_weaker}
 use Rattle.promql_label.specs.PlainMatchers.{plain_matchers}
 use Rattle.promql_label.specs.MatcherViews.{plain_matcher_of}
-use Rattle.promql_label.proofs.SortedMatchers.{is_before, texts_rank, sort_gives_sorted_matchers}
+use Rattle.promql_label.proofs.order.SortedMatchers.{is_before, texts_rank, sort_gives_sorted_matchers}
 use Rattle.promql_label.proofs.matchers.Matchers.sort.Goals as goal
 
 pub returns-clause-sorted : goal.returns-clause-sorted

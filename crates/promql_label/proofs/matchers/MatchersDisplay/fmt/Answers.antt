@@ -6,9 +6,9 @@ use Rattle.promql_label.specs.NextText.{text_of}
 use Rattle.promql_label.specs.SortedTexts.{sorted_texts}
 use Rattle.promql_label.specs.MatcherViews.{plain_matcher_of}
 use Rattle.promql_label.specs.declared.matcher.Matcher.{Matcher}
-use Rattle.promql_text.proofs.AllOptions.{writes_at_plain}
+use Rattle.promql_text.proofs.writing.AllOptions.{writes_at_plain}
 use Rattle.promql_text.specs.Texts.{joined_text}
-use Rattle.promql_label.proofs.PrintedMatchers.{text_without_groups, text_of_groups}
+use Rattle.promql_label.proofs.readback.PrintedMatchers.{text_without_groups, text_of_groups}
 use Rattle.promql_label.proofs.matchers.MatchersDisplay.fmt.Goals as goal
 
 -- a group, as plain data

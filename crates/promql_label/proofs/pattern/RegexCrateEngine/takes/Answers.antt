@@ -1,4 +1,4 @@
-use Rattle.promql_label.proofs.Reading.{taken_is_read}
+use Rattle.promql_label.proofs.regex_answers.Reading.{taken_is_read}
 use Rattle.promql_label.proofs.pattern.RegexCrateEngine.takes.Goals as goal
 
 pub returns-clause-taken : goal.returns-clause-taken

@@ -1,4 +1,4 @@
-use Rattle.promql_ast.proofs.ChangedLists.{on_ok}
+use Rattle.promql_ast.proofs.nodes.ChangedLists.{on_ok}
 use Rattle.std.proofs.Common.{◌++◌, ◌∷◌, [], length}
 use Rattle.promql_places.specs.CursorTokens.{kinds_left}
 use Rattle.promql_places.specs.PartSteps.{Step, and_then, selector, shifts}

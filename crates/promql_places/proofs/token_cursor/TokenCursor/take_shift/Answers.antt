@@ -1,5 +1,5 @@
 use Rattle.std.proofs.Common.{◌≡◌, ◌∙◌, ap, subst}
-use Rattle.promql_ast.proofs.ChangedLists.{on_ok}
+use Rattle.promql_ast.proofs.nodes.ChangedLists.{on_ok}
 use Rattle.promql_places.specs.CursorTokens.{kinds_left}
 use Rattle.promql_places.specs.PartSteps.{Takes, shift_kind, whole}
 use Rattle.promql_places.specs.Skipping.{front, skip_shift}

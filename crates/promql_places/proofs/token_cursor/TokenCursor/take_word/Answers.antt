@@ -1,5 +1,5 @@
 use Rattle.std.proofs.Common.{drop}
-use Rattle.promql_ast.proofs.ChangedLists.{on_ok}
+use Rattle.promql_ast.proofs.nodes.ChangedLists.{on_ok}
 use Rattle.promql_places.specs.CursorTokens.{kinds_left}
 use Rattle.promql_places.proofs.TakeSteps.{added_from, takes_part}
 use Rattle.promql_places.proofs.token_cursor.TokenCursor.take_word.Goals as goal

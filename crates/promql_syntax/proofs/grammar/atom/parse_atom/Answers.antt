@@ -2,9 +2,9 @@ use Rattle.std.proofs.Common.{ap, refl, ◌∙◌, drop}
 use Rattle.promql_grammar.specs.Symbols.{begins}
 use Rattle.promql_grammar.specs.SymbolsLeft.{symbols_left}
 use Rattle.promql_syntax.specs.Atoms.{parse_atom}
-use Rattle.promql_syntax.proofs.Bases.{bases_same}
-use Rattle.promql_syntax.proofs.AtomBases.{number_base, duration_base, string_base, nameless_base, leaf_named}
-use Rattle.promql_syntax.proofs.FirstTokens.{name_begins}
+use Rattle.promql_syntax.proofs.parsing.Bases.{bases_same}
+use Rattle.promql_syntax.proofs.parsing.AtomBases.{number_base, duration_base, string_base, nameless_base, leaf_named}
+use Rattle.promql_syntax.proofs.parsing.FirstTokens.{name_begins}
 use Rattle.promql_syntax.proofs.grammar.atom.parse_atom.Goals as goal
 
 pub returns-in_ok-build_number-in-Number-clause-gives : goal.returns-in_ok-build_number-in-Number-clause-gives

@@ -1,8 +1,8 @@
 use Rattle.std.proofs.Common.{sym, drop}
 use Rattle.promql_grammar.specs.SymbolsLeft.{symbols_left}
 use Rattle.promql_syntax.specs.Atoms.{parse_named}
-use Rattle.promql_syntax.proofs.AtomBases.{named_selector, not_named}
-use Rattle.promql_syntax.proofs.Bases.{bases_same}
+use Rattle.promql_syntax.proofs.parsing.AtomBases.{named_selector, not_named}
+use Rattle.promql_syntax.proofs.parsing.Bases.{bases_same}
 use Rattle.promql_syntax.proofs.grammar.atom.parse_named.Goals as goal
 
 pub returns-then-not-may_be_name-clause-gives : goal.returns-then-not-may_be_name-clause-gives

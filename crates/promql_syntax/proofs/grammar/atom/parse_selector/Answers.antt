@@ -1,8 +1,8 @@
 use Rattle.std.proofs.Common.{refl}
 use Rattle.promql_grammar.specs.Parsing.{parse_selector}
 use Rattle.promql_grammar.specs.SymbolsLeft.{symbols_left}
-use Rattle.promql_syntax.proofs.Bases.{bases_same}
-use Rattle.promql_syntax.proofs.AtomBases.{bare_base, named_selected}
+use Rattle.promql_syntax.proofs.parsing.Bases.{bases_same}
+use Rattle.promql_syntax.proofs.parsing.AtomBases.{bare_base, named_selected}
 use Rattle.promql_syntax.proofs.grammar.atom.parse_selector.Goals as goal
 
 pub returns-then-eat-clause-gives : goal.returns-then-eat-clause-gives

@@ -1,5 +1,5 @@
 use Rattle.promql_grammar.specs.SymbolsLeft.{symbols_left}
-use Rattle.promql_syntax.proofs.AtomBases.{selected_base}
+use Rattle.promql_syntax.proofs.parsing.AtomBases.{selected_base}
 use Rattle.promql_syntax.proofs.grammar.atom.parse_selector_braces.Goals as goal
 
 pub returns-clause-gives : goal.returns-clause-gives

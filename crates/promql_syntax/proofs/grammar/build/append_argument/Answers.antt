@@ -3,13 +3,13 @@ use Rattle.std.specs.Prelude.{All, Ok}
 use Rattle.std.proofs.lemmas.List.Elements.{All-append}
 use Rattle.promql_ast.specs.View.{tree_of, trees_of}
 use Rattle.promql_syntax.specs.Building.{build, build_all}
-use Rattle.promql_syntax.proofs.BuiltForms.{goes_on, with_tree, with_fault, with_trees, with_no_trees}
+use Rattle.promql_syntax.proofs.building.BuiltForms.{goes_on, with_tree, with_fault, with_trees, with_no_trees}
 use Rattle.promql_syntax.proofs.grammar.build.append_argument.Goals as goal
 use Rattle.promql_grammar.specs.Grammar.{yield}
 use Rattle.promql_syntax.specs.FaultTokens.{Builds, subexpressions, subexpressions_of}
 use Rattle.promql_syntax.specs.ParsesExpr.{IsFaultIn, IsPlaced}
-use Rattle.promql_syntax.proofs.FaultPlacing.{in_first, in_second, parts_built}
-use Rattle.promql_syntax.proofs.MoreArguments.{appended, appended_trees, more_arguments_of, no_arguments_of}
+use Rattle.promql_syntax.proofs.answer.FaultPlacing.{in_first, in_second, parts_built}
+use Rattle.promql_syntax.proofs.building.MoreArguments.{appended, appended_trees, more_arguments_of, no_arguments_of}
 
 pub returns-in-Err-clause-built : goal.returns-in-Err-clause-built
 returns-in-Err-clause-built c = λ builds n k ds d args parsed.

@@ -11,10 +11,10 @@ use Rattle.promql_syntax.specs.BuildErrors.{view_result}
 use Rattle.promql_syntax.specs.Asking.{known, ◌giving◌}
 use Rattle.promql_syntax.specs.Building.{build_all, from_checked_verdict}
 use Rattle.promql_syntax.specs.PartBuilding.{clause_value}
-use Rattle.promql_syntax.proofs.Ending.{then_value, then_fault}
-use Rattle.promql_syntax.proofs.BuiltForms.{if_ok_both, is_expr_of, with_trees, with_no_trees, gives_or_memory, aggregate_ends, clause_fails}
+use Rattle.promql_syntax.proofs.building.Ending.{then_value, then_fault}
+use Rattle.promql_syntax.proofs.building.BuiltForms.{if_ok_both, is_expr_of, with_trees, with_no_trees, gives_or_memory, aggregate_ends, clause_fails}
 use Rattle.promql_syntax.specs.FaultTokens.{here, subexpressions_of}
-use Rattle.promql_syntax.proofs.FaultPlacing.{parts_built, passed_on, whole_placed}
+use Rattle.promql_syntax.proofs.answer.FaultPlacing.{parts_built, passed_on, whole_placed}
 use Rattle.promql_syntax.proofs.grammar.build.build_aggregate.Goals as goal
 
 pub returns-in-Err-clause-built : goal.returns-in-Err-clause-built

@@ -10,13 +10,13 @@ use Rattle.promql_syntax.specs.ParsesExpr.{IsExprOf, IsPlaced, modifier_of}
 use Rattle.promql_syntax.specs.Asking.{known, ◌giving◌}
 use Rattle.promql_syntax.specs.Building.{build, from_verdict}
 use Rattle.promql_syntax.specs.PartBuilding.{modifier_value}
-use Rattle.promql_syntax.proofs.Ending.{then_value, then_fault}
-use Rattle.promql_syntax.proofs.BuiltForms.{goes_on, is_expr_of, with_tree, with_fault, binary_ends}
+use Rattle.promql_syntax.proofs.building.Ending.{then_value, then_fault}
+use Rattle.promql_syntax.proofs.building.BuiltForms.{goes_on, is_expr_of, with_tree, with_fault, binary_ends}
 use Rattle.promql_syntax.specs.BuildErrors.{build_error_of}
 use Rattle.promql_syntax.specs.FaultTokens.{Builds, here, subexpressions}
 use Rattle.promql_syntax.specs.Placing.{HasModifierPlace, IsModifierAt, left_after}
-use Rattle.promql_syntax.proofs.FaultPlacing.{own_placed, parts_built, passed_on, second_placed}
-use Rattle.promql_syntax.proofs.OwnFaults.{if_ok_all, modified_tokens, modifier_tokens, of_error}
+use Rattle.promql_syntax.proofs.answer.FaultPlacing.{own_placed, parts_built, passed_on, second_placed}
+use Rattle.promql_syntax.proofs.answer.OwnFaults.{if_ok_all, modified_tokens, modifier_tokens, of_error}
 use Rattle.promql_syntax.proofs.grammar.build.build_binary.Goals as goal
 
 pub returns-in-Err-clause-built : goal.returns-in-Err-clause-built

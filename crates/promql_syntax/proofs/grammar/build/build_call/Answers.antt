@@ -6,13 +6,13 @@ use Rattle.promql_grammar.specs.declared.token_kinds.TokenKind.{TokenKind}
 use Rattle.promql_syntax.specs.ParsesExpr.{IsExprOf, AreArgsOf}
 use Rattle.promql_kind.specs.Functions.{function_named}
 use Rattle.promql_syntax.specs.Building.{build_all, build_call}
-use Rattle.promql_syntax.proofs.Ending.{then_value, then_fault}
-use Rattle.promql_syntax.proofs.BuiltForms.{is_expr_of, with_trees, with_no_trees, call_ends, unknown_ends}
+use Rattle.promql_syntax.proofs.building.Ending.{then_value, then_fault}
+use Rattle.promql_syntax.proofs.building.BuiltForms.{is_expr_of, with_trees, with_no_trees, call_ends, unknown_ends}
 use Rattle.promql_syntax.specs.BuildErrors.{build_error_of}
 use Rattle.promql_syntax.specs.FaultTokens.{here, subexpressions_of}
 use Rattle.promql_syntax.specs.Placing.{IsCallAt}
-use Rattle.promql_syntax.proofs.FaultPlacing.{no_tokens, own_placed, parts_built, passed_on}
-use Rattle.promql_syntax.proofs.OwnFaults.{error_placed, if_ok_all, name_tokens, none_checked, of_error}
+use Rattle.promql_syntax.proofs.answer.FaultPlacing.{no_tokens, own_placed, parts_built, passed_on}
+use Rattle.promql_syntax.proofs.answer.OwnFaults.{error_placed, if_ok_all, name_tokens, none_checked, of_error}
 use Rattle.promql_syntax.proofs.grammar.build.build_call.Goals as goal
 
 pub returns-in-Err-clause-built : goal.returns-in-Err-clause-built

@@ -11,7 +11,7 @@ use Rattle.promql_syntax.specs.BuildErrors.{view_result}
 use Rattle.promql_syntax.specs.Placing.{HasModifierPlace}
 use Rattle.promql_syntax.specs.ParsesExpr.{tree_result, modifier_of}
 use Rattle.promql_syntax.specs.PartBuilding.{modifier_value}
-use Rattle.promql_syntax.proofs.BuiltForms.{if_ok_both, binary_ends, modifier_fails}
+use Rattle.promql_syntax.proofs.building.BuiltForms.{if_ok_both, binary_ends, modifier_fails}
 use Rattle.promql_syntax.proofs.grammar.build.build_modified_binary.Goals as goal
 
 pub returns-in_ok-expr-in-Ok-clause-value : goal.returns-in_ok-expr-in-Ok-clause-value

@@ -5,10 +5,10 @@ use Rattle.promql_ast.specs.View.{tree_of}
 use Rattle.promql_grammar.specs.Grammar as grammar
 use Rattle.promql_syntax.specs.Asking.{gives}
 use Rattle.promql_syntax.specs.Building.{build}
-use Rattle.promql_syntax.proofs.Ending.{then_value, then_fault}
-use Rattle.promql_syntax.proofs.BuiltForms.{is_expr_of, with_tree, with_fault, ends_given}
+use Rattle.promql_syntax.proofs.building.Ending.{then_value, then_fault}
+use Rattle.promql_syntax.proofs.building.BuiltForms.{is_expr_of, with_tree, with_fault, ends_given}
 use Rattle.promql_syntax.specs.FaultTokens.{here, subexpressions}
-use Rattle.promql_syntax.proofs.FaultPlacing.{parts_built, passed_on, whole_placed}
+use Rattle.promql_syntax.proofs.answer.FaultPlacing.{parts_built, passed_on, whole_placed}
 use Rattle.promql_syntax.proofs.grammar.build.build_paren.Goals as goal
 
 pub returns-in_ok-expr-in-Ok-clause-built : goal.returns-in_ok-expr-in-Ok-clause-built

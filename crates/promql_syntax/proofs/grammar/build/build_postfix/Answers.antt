@@ -6,12 +6,12 @@ use Rattle.promql_grammar.specs.GrammarParts.{yield_postfix}
 use Rattle.promql_syntax.specs.ParsesExpr.{IsExprOf}
 use Rattle.promql_syntax.specs.Postfixes.{IsPostfixOf}
 use Rattle.promql_syntax.specs.Building.{build, build_postfix}
-use Rattle.promql_syntax.proofs.Ending.{then_value, then_fault}
-use Rattle.promql_syntax.proofs.BuiltForms.{is_expr_of, with_tree, with_fault, postfix_ends}
+use Rattle.promql_syntax.proofs.building.Ending.{then_value, then_fault}
+use Rattle.promql_syntax.proofs.building.BuiltForms.{is_expr_of, with_tree, with_fault, postfix_ends}
 use Rattle.promql_syntax.specs.FaultTokens.{here, subexpressions}
 use Rattle.promql_syntax.specs.Placing.{IsPostfixAt}
-use Rattle.promql_syntax.proofs.FaultPlacing.{own_placed, parts_built, passed_on}
-use Rattle.promql_syntax.proofs.OwnFaults.{if_ok_all, of_error, postfixed_tokens}
+use Rattle.promql_syntax.proofs.answer.FaultPlacing.{own_placed, parts_built, passed_on}
+use Rattle.promql_syntax.proofs.answer.OwnFaults.{if_ok_all, of_error, postfixed_tokens}
 use Rattle.promql_syntax.proofs.grammar.build.build_postfix.Goals as goal
 
 pub returns-in-Ok-clause-built : goal.returns-in-Ok-clause-built

@@ -5,11 +5,11 @@ use Rattle.promql_ast.specs.View.{tree_of}
 use Rattle.promql_grammar.specs.Grammar as grammar
 use Rattle.promql_syntax.specs.ParsesExpr.{IsExprOf}
 use Rattle.promql_syntax.specs.Building.{build, build_unary}
-use Rattle.promql_syntax.proofs.Ending.{then_value, then_fault}
-use Rattle.promql_syntax.proofs.BuiltForms.{if_ok_both, is_expr_of, with_tree, with_fault, plus_ends, minus_ends}
+use Rattle.promql_syntax.proofs.building.Ending.{then_value, then_fault}
+use Rattle.promql_syntax.proofs.building.BuiltForms.{if_ok_both, is_expr_of, with_tree, with_fault, plus_ends, minus_ends}
 use Rattle.std.proofs.lemmas.Bool.Decides.{nat_tests}
 use Rattle.promql_syntax.specs.FaultTokens.{here, subexpressions}
-use Rattle.promql_syntax.proofs.FaultPlacing.{parts_built, passed_on, whole_placed}
+use Rattle.promql_syntax.proofs.answer.FaultPlacing.{parts_built, passed_on, whole_placed}
 use Rattle.promql_syntax.proofs.grammar.build.build_unary.Goals as goal
 
 pub returns-then-op-ne-T_SUB-clause-built : goal.returns-then-op-ne-T_SUB-clause-built

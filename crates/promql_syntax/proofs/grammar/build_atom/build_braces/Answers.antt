@@ -8,8 +8,8 @@ use Rattle.promql_label.specs.MatcherViews.{plain_matchers_of}
 use Rattle.promql_syntax.specs.Asking.{EndsIn}
 use Rattle.promql_syntax.specs.Building.{build, selector_tree}
 use Rattle.promql_syntax.specs.PartBuilding.{braces_value}
-use Rattle.promql_syntax.proofs.Ending.{ends_held, then_value, then_fault}
-use Rattle.promql_syntax.proofs.BuiltForms.{if_ok_both, selector_ends}
+use Rattle.promql_syntax.proofs.building.Ending.{ends_held, then_value, then_fault}
+use Rattle.promql_syntax.proofs.building.BuiltForms.{if_ok_both, selector_ends}
 use Rattle.promql_syntax.proofs.grammar.build_atom.build_braces.Goals as goal
 
 pub returns-in_ok-expr-in-Ok-clause-built : goal.returns-in_ok-expr-in-Ok-clause-built

@@ -2,7 +2,7 @@ use Rattle.std.proofs.Common.{◌≡◌, sym}
 use Rattle.std.specs.Prelude.{None, Ok}
 use Rattle.promql_grammar.specs.Parsing.{parse_postfix}
 use Rattle.promql_grammar.specs.SymbolsLeft.{symbols_left}
-use Rattle.promql_syntax.proofs.Postfixing.{no_postfix_at, no_postfix_left, no_postfixes}
+use Rattle.promql_syntax.proofs.parsing.Postfixing.{no_postfix_at, no_postfix_left, no_postfixes}
 use Rattle.promql_syntax.proofs.grammar.expression.parse_postfixes.Goals as goal
 use Rattle.promql_syntax.proofs.grammar.expression.parse_postfixes.Goals.{in_default-via-in-Some+else-starts_postfix, in_default-via-in_default}
 

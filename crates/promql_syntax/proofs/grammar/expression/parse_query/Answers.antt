@@ -1,5 +1,5 @@
 use Rattle.std.proofs.lemmas.Result.{err_from_is_err_and}
-use Rattle.promql_syntax.proofs.QueryAnswers.{whole_stops, whole_given, whole_placed, left_misfits, some_left, none_left}
+use Rattle.promql_syntax.proofs.answer.QueryAnswers.{whole_stops, whole_given, whole_placed, left_misfits, some_left, none_left}
 use Rattle.promql_syntax.proofs.grammar.expression.parse_query.Goals as goal
 
 pub returns-in_err-parsed-clause-whole : goal.returns-in_err-parsed-clause-whole

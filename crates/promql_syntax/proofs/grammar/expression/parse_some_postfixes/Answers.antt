@@ -2,8 +2,8 @@ use Rattle.std.proofs.Common.{◌≡◌, ◌∙◌, ◌+◌, ◌<◌, ◌^◌, l
 use Rattle.std.proofs.lemmas.Result.{err_from_is_err_and}
 use Rattle.promql_grammar.specs.GrammarParts.{yield_postfix}
 use Rattle.promql_grammar.specs.SymbolsLeft.{symbols_left, token_count}
-use Rattle.promql_syntax.proofs.Bases.{counted_on, postfix_length}
-use Rattle.promql_syntax.proofs.Postfixing.{recount_postfix, postfixing_first, postfixing_ends, postfixing_fails, postfixing_deep, postfixing_on, added_low}
+use Rattle.promql_syntax.proofs.parsing.Bases.{counted_on, postfix_length}
+use Rattle.promql_syntax.proofs.parsing.Postfixing.{recount_postfix, postfixing_first, postfixing_ends, postfixing_fails, postfixing_deep, postfixing_on, added_low}
 use Rattle.promql_syntax.proofs.grammar.expression.parse_some_postfixes.Goals as goal
 
 pub loop-parsed-init : goal.loop-parsed-init

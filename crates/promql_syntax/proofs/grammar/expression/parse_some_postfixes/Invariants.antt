@@ -2,7 +2,7 @@ use Rattle.std.proofs.Common.{◌≡◌, ℕ, ◌<◌, ◌≤◌, ◌^◌, lengt
 use Rattle.promql_grammar.specs.Grammar.{Derivation}
 use Rattle.promql_grammar.specs.SymbolsLeft.{CountsTaken, symbols_left, token_count, tokens_taken}
 use Rattle.promql_syntax.specs.ParsesExpr.{IsExprOf}
-use Rattle.promql_syntax.proofs.Postfixing.{Postfixing}
+use Rattle.promql_syntax.proofs.parsing.Postfixing.{Postfixing}
 use Rattle.promql_syntax.proofs.grammar.expression.parse_some_postfixes.Given as goal
 
 abbrev pub invariant-loop-parsed : goal.invariant-loop-parsed

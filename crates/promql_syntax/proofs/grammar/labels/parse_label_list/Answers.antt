@@ -2,8 +2,8 @@ use Rattle.std.proofs.lemmas.Result.{err_from_is_err_and}
 use Rattle.std.proofs.Common.{ap, sym, subst, refl, arith, length, map, string_bytes, List, Ok}
 use Rattle.promql_text.specs.Texts.{Text}
 use Rattle.promql_grammar.specs.SymbolsLeft.{symbols_left}
-use Rattle.promql_syntax.proofs.Bases.{counted_on}
-use Rattle.promql_syntax.proofs.LabelLists.{Naming, naming_starts, naming_none, naming_last, naming_more, naming_fails}
+use Rattle.promql_syntax.proofs.parsing.Bases.{counted_on}
+use Rattle.promql_syntax.proofs.parsing.LabelLists.{Naming, naming_starts, naming_none, naming_last, naming_more, naming_fails}
 use Rattle.promql_syntax.proofs.grammar.labels.parse_label_list.Goals as goal
 
 pub loop-kind-init : goal.loop-kind-init

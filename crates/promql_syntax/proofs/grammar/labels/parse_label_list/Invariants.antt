@@ -2,7 +2,7 @@ use Rattle.std.proofs.Common.{◌≤◌, length}
 use Rattle.promql_grammar.specs.SymbolsLeft.{CountsTaken, symbols_left}
 use Rattle.promql_label.specs.Labels.{labels_of}
 use Rattle.promql_syntax.specs.BuildErrors.{view_result}
-use Rattle.promql_syntax.proofs.LabelLists.{Naming}
+use Rattle.promql_syntax.proofs.parsing.LabelLists.{Naming}
 use Rattle.promql_syntax.proofs.grammar.labels.parse_label_list.Given as goal
 
 abbrev pub invariant-loop-kind : goal.invariant-loop-kind

@@ -1,4 +1,4 @@
-use Rattle.promql_syntax.proofs.CountedTokens.{counted_if_ok}
+use Rattle.promql_syntax.proofs.parsing.CountedTokens.{counted_if_ok}
 use Rattle.promql_syntax.proofs.grammar.labels.parse_labels.Goals as goal
 
 pub returns-clause-counts : goal.returns-clause-counts

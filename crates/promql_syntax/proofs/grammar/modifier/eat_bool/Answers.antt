@@ -1,5 +1,5 @@
 use Rattle.promql_grammar.specs.SymbolsLeft.{symbols_left}
-use Rattle.promql_syntax.proofs.ModifierReading.{flag_read, flag_short}
+use Rattle.promql_syntax.proofs.parsing.ModifierReading.{flag_read, flag_short}
 use Rattle.promql_syntax.proofs.grammar.modifier.eat_bool.Goals as goal
 
 pub returns-clause-gives : goal.returns-clause-gives

@@ -3,7 +3,7 @@ use Rattle.promql_grammar.specs.GrammarParts as part
 use Rattle.promql_grammar.specs.Results.{◌then◌}
 use Rattle.promql_grammar.specs.SymbolsLeft.{symbols_left}
 use Rattle.promql_kind.specs.Modifiers.{fills}
-use Rattle.promql_syntax.proofs.ModifierReading.{right_alone}
+use Rattle.promql_syntax.proofs.parsing.ModifierReading.{right_alone}
 use Rattle.promql_syntax.proofs.grammar.modifier.parse_fill_left.Goals as goal
 
 pub returns-then-not-eat-clause-gives : goal.returns-then-not-eat-clause-gives

@@ -8,7 +8,7 @@ use Rattle.promql_grammar.specs.Parsing.{eat_sign, parse_fill_value, parse_fill_
 use Rattle.promql_grammar.specs.Results.{◌then◌}
 use Rattle.promql_grammar.specs.Symbols.{Symbol, punct}
 use Rattle.promql_grammar.specs.PartTokens.{parse_signed_number}
-use Rattle.promql_syntax.proofs.PartSteps.{number_then, value_fails, value_open}
+use Rattle.promql_syntax.proofs.parsing.PartSteps.{number_then, value_fails, value_open}
 use Rattle.promql_syntax.proofs.grammar.modifier.parse_fill_value.Goals as goal
 
 -- a number with its sign, in parentheses

@@ -1,7 +1,7 @@
 use Rattle.promql_grammar.specs.declared.token_kinds.TokenKind.TheVariants as kind
 use Rattle.promql_grammar.specs.SymbolsLeft.{symbols_left}
 use Rattle.promql_grammar.proofs.Eating.{at_word}
-use Rattle.promql_syntax.proofs.ModifierReading.{left_filled, right_filled}
+use Rattle.promql_syntax.proofs.parsing.ModifierReading.{left_filled, right_filled}
 use Rattle.promql_syntax.proofs.grammar.modifier.parse_fills.Goals as goal
 
 pub returns-in_ok-left-in-FillLeft-clause-gives : goal.returns-in_ok-left-in-FillLeft-clause-gives

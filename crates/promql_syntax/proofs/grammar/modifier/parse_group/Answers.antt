@@ -3,7 +3,7 @@ use Rattle.std.proofs.lemmas.Result.{err_from_is_err_and}
 use Rattle.promql_grammar.specs.declared.token_kinds.TokenKind.TheVariants as kind
 use Rattle.promql_grammar.specs.SymbolsLeft.{symbols_left}
 use Rattle.promql_grammar.proofs.Eating.{at_word}
-use Rattle.promql_syntax.proofs.ModifierReading.{group_left_read, group_right_read, group_fails, group_part}
+use Rattle.promql_syntax.proofs.parsing.ModifierReading.{group_left_read, group_right_read, group_fails, group_part}
 use Rattle.promql_syntax.proofs.grammar.modifier.parse_group.Goals as goal
 
 pub returns-in_err-labels-in-GroupLeft-clause-gives :

@@ -1,4 +1,4 @@
-use Rattle.promql_syntax.proofs.CountedTokens.{counted_if_ok}
+use Rattle.promql_syntax.proofs.parsing.CountedTokens.{counted_if_ok}
 use Rattle.promql_syntax.proofs.grammar.modifier.parse_group_labels.Goals as goal
 
 pub returns-then-eat-clause-counts : goal.returns-then-eat-clause-counts

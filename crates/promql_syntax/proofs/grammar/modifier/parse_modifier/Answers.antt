@@ -1,5 +1,5 @@
 use Rattle.promql_grammar.specs.SymbolsLeft.{symbols_left}
-use Rattle.promql_syntax.proofs.ModifierReading.{modifier_part}
+use Rattle.promql_syntax.proofs.parsing.ModifierReading.{modifier_part}
 use Rattle.promql_syntax.proofs.grammar.modifier.parse_modifier.Goals as goal
 
 pub returns-clause-gives : goal.returns-clause-gives

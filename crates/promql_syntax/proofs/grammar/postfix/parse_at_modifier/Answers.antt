@@ -1,7 +1,7 @@
 use Rattle.std.proofs.Common.{arith}
 use Rattle.std.proofs.lemmas.Result.{err_from_is_err_and}
 use Rattle.promql_grammar.specs.SymbolsLeft.{token_count}
-use Rattle.promql_syntax.proofs.PartSteps.{moment_placed, number_fails, number_held}
+use Rattle.promql_syntax.proofs.parsing.PartSteps.{moment_placed, number_fails, number_held}
 use Rattle.promql_syntax.proofs.grammar.postfix.parse_at_modifier.Goals as goal
 
 pub returns-in_ok-build_at_modifier-in_default-kind : goal.returns-in_ok-build_at_modifier-in_default-kind

@@ -11,8 +11,8 @@ use Rattle.promql_grammar.specs.SymbolsLeft.{symbols_left}
 use Rattle.promql_grammar.specs.PartTokens.{parse_offset}
 use Rattle.promql_syntax.specs.Postfixes.{by_shift}
 use Rattle.promql_grammar.proofs.Eating.{at_word}
-use Rattle.promql_syntax.proofs.PartSteps.{offset_fails, time_then}
-use Rattle.promql_syntax.proofs.ResultSteps.{fails_same}
+use Rattle.promql_syntax.proofs.parsing.PartSteps.{offset_fails, time_then}
+use Rattle.promql_syntax.proofs.parsing.ResultSteps.{fails_same}
 use Rattle.promql_syntax.proofs.grammar.postfix.parse_postfix.Goals as goal
 
 -- a time with its sign follows `offset`

@@ -1,6 +1,6 @@
 use Rattle.promql_grammar.specs.declared.token_kinds.TokenKind.TheVariants as kind
 use Rattle.promql_grammar.proofs.Eating.{at_word}
-use Rattle.promql_syntax.proofs.PartSteps.{colon_given}
+use Rattle.promql_syntax.proofs.parsing.PartSteps.{colon_given}
 use Rattle.promql_syntax.proofs.grammar.postfix.parse_range.Goals as goal
 
 pub returns-in-Colon-clause-gives : goal.returns-in-Colon-clause-gives

@@ -8,8 +8,8 @@ use Rattle.promql_grammar.specs.Symbols.{Symbol}
 use Rattle.promql_grammar.specs.Eating.{HasNo}
 use Rattle.promql_grammar.specs.Failures.{Failure, Fails}
 use Rattle.promql_syntax.specs.Postfixes.{subquery_change}
-use Rattle.promql_syntax.proofs.PartSteps.{some_step, step_open}
-use Rattle.promql_syntax.proofs.ResultSteps.{fails_same, fails_then}
+use Rattle.promql_syntax.proofs.parsing.PartSteps.{some_step, step_open}
+use Rattle.promql_syntax.proofs.parsing.ResultSteps.{fails_same, fails_then}
 use Rattle.promql_syntax.proofs.grammar.postfix.parse_step.Goals as goal
 
 -- no time is the step

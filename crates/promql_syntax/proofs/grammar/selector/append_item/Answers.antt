@@ -1,7 +1,7 @@
 use Rattle.std.proofs.Common.{◌∙◌, sym, subst, Ok}
 use Rattle.promql_label.specs.MatcherViews.{plain_matcher_of, plain_matchers_of}
 use Rattle.promql_syntax.specs.MatcherItems.{AddsItem}
-use Rattle.promql_syntax.proofs.MatcherBuilding.{joins_item, joins_none, joined_or, joined_comma}
+use Rattle.promql_syntax.proofs.building.MatcherBuilding.{joins_item, joins_none, joined_or, joined_comma}
 use Rattle.promql_syntax.proofs.grammar.selector.append_item.Goals as goal
 
 pub returns-in-Err : goal.returns-in-Err

@@ -1,7 +1,7 @@
 use Rattle.std.proofs.Common.{◌∙◌, sym, subst, Err}
 use Rattle.promql_syntax.specs.Asking.{Ends}
 use Rattle.promql_syntax.specs.PartBuilding.{operator_value}
-use Rattle.promql_syntax.proofs.MatcherBuilding.{matches_ends, matches_fails, matches_not_ends, matches_not_fails}
+use Rattle.promql_syntax.proofs.building.MatcherBuilding.{matches_ends, matches_fails, matches_not_ends, matches_not_fails}
 use Rattle.promql_syntax.proofs.grammar.selector.build_match_op.Goals as goal
 
 pub returns-in-Ok : goal.returns-in-Ok

@@ -1,8 +1,8 @@
 use Rattle.std.proofs.Common.{◌≡◌, ◌<◌, true, ap, sym, subst, refl, arith, length, Ok, false}
 use Rattle.std.proofs.lemmas.Result.{err_from_is_err_and}
 use Rattle.promql_grammar.specs.SymbolsLeft.{symbols_left}
-use Rattle.promql_syntax.proofs.Bases.{counted_on}
-use Rattle.promql_syntax.proofs.MatcherLists.{Selecting, selecting_starts, selecting_none, selecting_fails, selecting_last, selecting_more}
+use Rattle.promql_syntax.proofs.parsing.Bases.{counted_on}
+use Rattle.promql_syntax.proofs.parsing.MatcherLists.{Selecting, selecting_starts, selecting_none, selecting_fails, selecting_last, selecting_more}
 use Rattle.promql_syntax.proofs.grammar.selector.parse_braces.Goals as goal
 
 pub loop-matchers-init : goal.loop-matchers-init

@@ -2,7 +2,7 @@ use Rattle.std.proofs.Common.{◌≤◌, length}
 use Rattle.promql_grammar.specs.SymbolsLeft.{CountsTaken, symbols_left}
 use Rattle.promql_label.specs.MatcherViews.{plain_matchers_of}
 use Rattle.promql_syntax.specs.BuildErrors.{view_result}
-use Rattle.promql_syntax.proofs.MatcherLists.{Selecting}
+use Rattle.promql_syntax.proofs.parsing.MatcherLists.{Selecting}
 use Rattle.promql_syntax.proofs.grammar.selector.parse_braces.Given as goal
 
 abbrev pub invariant-loop-matchers : goal.invariant-loop-matchers

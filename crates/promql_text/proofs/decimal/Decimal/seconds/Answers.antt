@@ -1,5 +1,5 @@
 use Rattle.std.proofs.Common.{◌<◌, arith}
-use Rattle.promql_text.proofs.Exacts.{seconds_value, with_places_is}
+use Rattle.promql_text.proofs.numbers.Exacts.{seconds_value, with_places_is}
 use Rattle.promql_text.proofs.decimal.Decimal.seconds.Goals as goal
 
 pub invariant_of-result : goal.invariant_of-result

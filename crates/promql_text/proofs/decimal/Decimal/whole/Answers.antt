@@ -1,5 +1,5 @@
 use Rattle.std.proofs.Common.{◌≡◌, ◌<◌, ◌*◌, ◌^◌, arith}
-use Rattle.promql_text.proofs.Exacts.{whole_is, whole_value}
+use Rattle.promql_text.proofs.numbers.Exacts.{whole_is, whole_value}
 use Rattle.promql_text.proofs.decimal.Decimal.whole.Goals as goal
 
 pub invariant_of-result : goal.invariant_of-result

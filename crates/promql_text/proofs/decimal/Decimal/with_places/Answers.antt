@@ -1,5 +1,5 @@
 use Rattle.std.proofs.Common.{◌<◌, arith}
-use Rattle.promql_text.proofs.Exacts.{with_places_is, with_places_value}
+use Rattle.promql_text.proofs.numbers.Exacts.{with_places_is, with_places_value}
 use Rattle.promql_text.proofs.decimal.Decimal.with_places.Goals as goal
 
 pub invariant_of-result : goal.invariant_of-result

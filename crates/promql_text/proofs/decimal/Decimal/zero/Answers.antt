@@ -1,4 +1,4 @@
-use Rattle.promql_text.proofs.Exacts.{exact_zero_is}
+use Rattle.promql_text.proofs.numbers.Exacts.{exact_zero_is}
 use Rattle.promql_text.proofs.decimal.Decimal.zero.Goals as goal
 
 pub invariant_of-result : goal.invariant_of-result

@@ -1,6 +1,6 @@
 use Rattle.std.proofs.Common.{◌%◌, ◌^◌, ◌∙◌, ap, arith}
 use Rattle.promql_text.specs.Numbers.{digit_count}
-use Rattle.promql_text.proofs.Points.{part_count}
+use Rattle.promql_text.proofs.numerals.Points.{part_count}
 use Rattle.promql_text.proofs.display.MagnitudeDisplay.fmt.Goals as goal
 
 pub overflow_sub-zeros : goal.overflow_sub-zeros

@@ -2,7 +2,7 @@ use Rattle.std.proofs.Common.{◌++◌, ◌-◌, ◌/◌, [], refl, rules, arith
 use Rattle.std.specs.Fmt.{decimal}
 use Rattle.std.proofs.Output.{has_written_append, has_written_of_eq}
 use Rattle.promql_text.specs.DurationText.{fraction_text}
-use Rattle.promql_text.proofs.Fractions.{fraction_more, fraction_below, fraction_done, fraction_all, ten_above}
+use Rattle.promql_text.proofs.numerals.Fractions.{fraction_more, fraction_below, fraction_done, fraction_all, ten_above}
 use Rattle.promql_text.proofs.duration_text.FractionDisplay.fmt.Goals as goal
 
 pub loop-place-init : goal.loop-place-init

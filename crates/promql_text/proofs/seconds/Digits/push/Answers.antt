@@ -1,6 +1,6 @@
 use Rattle.std.proofs.Common.{◌≡◌, ◌+◌, ◌-◌, ◌*◌, refl, arith}
 use Rattle.promql_text.specs.DurationReaders.{cap_u128}
-use Rattle.promql_text.proofs.DigitsRead.{push_before}
+use Rattle.promql_text.proofs.numerals.DigitsRead.{push_before}
 use Rattle.promql_text.proofs.seconds.Digits.push.Goals as goal
 
 pub returns-then-self-gt0 : goal.returns-then-self-gt0

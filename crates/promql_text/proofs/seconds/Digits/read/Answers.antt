@@ -2,7 +2,7 @@ use Rattle.std.proofs.Common.{◌++◌, ◌∷◌, [], get_or, take, ◌∙◌, 
 use Rattle.std.proofs.lemmas.List.{take_all}
 use Rattle.std.proofs.lemmas.Str.Parse.{digit_at}
 use Rattle.promql_text.specs.Rounding.{HasRead}
-use Rattle.promql_text.proofs.DigitsRead.{digit_is, more_taken}
+use Rattle.promql_text.proofs.numerals.DigitsRead.{digit_is, more_taken}
 use Rattle.promql_text.proofs.seconds.Digits.read.Goals as goal
 
 pub overflow_sub-b : goal.overflow_sub-b

@@ -1,5 +1,5 @@
 use Rattle.std.proofs.Common.{◌∙◌}
-use Rattle.promql_text.proofs.DigitsRead.{finish_none, finish_below, finish_half, finish_above}
+use Rattle.promql_text.proofs.numerals.DigitsRead.{finish_none, finish_below, finish_half, finish_above}
 use Rattle.promql_text.proofs.seconds.Digits.round.Goals as goal
 
 pub returns-in-Empty : goal.returns-in-Empty

@@ -1,5 +1,5 @@
 use Rattle.std.proofs.Common.{arith, ap, ◌∙◌, ◌*◌, ◌+◌, ◌^◌, ◌≡◌, refl}
-use Rattle.promql_text.proofs.Tens.{times_ten, push_long, push_value, push_short, IsPushed, zero_stays}
+use Rattle.promql_text.proofs.numbers.Tens.{times_ten, push_long, push_value, push_short, IsPushed, zero_stays}
 use Rattle.promql_text.proofs.significand.Significand.push.Goals as goal
 use Rattle.promql_text.proofs.significand.Significand.push.Goals.{then-self-eq0, else-self-eq0}
 

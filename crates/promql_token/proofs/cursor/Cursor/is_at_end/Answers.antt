@@ -1,6 +1,6 @@
 use Rattle.std.proofs.Common.{◌∙◌, sym}
 use Rattle.std.proofs.lemmas.Bool.{eqb-true}
-use Rattle.promql_token.proofs.CursorTokens.{at_text_end}
+use Rattle.promql_token.proofs.cursors.CursorTokens.{at_text_end}
 use Rattle.promql_token.proofs.cursor.Cursor.is_at_end.Goals as goal
 
 pub returns-in-Outside-clause-tokens : goal.returns-in-Outside-clause-tokens

@@ -1,5 +1,5 @@
 use Rattle.std.proofs.Common.{◌∙◌}
-use Rattle.promql_token.proofs.CursorTokens.{at_fault_or_end}
+use Rattle.promql_token.proofs.cursors.CursorTokens.{at_fault_or_end}
 use Rattle.promql_token.proofs.cursor.Cursor.is_at_fault.Goals as goal
 
 pub returns : goal.returns

@@ -1,6 +1,6 @@
 use denote.Bor.{Bor}
 use Rattle.std.proofs.Common.{ℕ, List, ap}
-use Rattle.promql_token.proofs.CursorTokens.{new_left, new_whole, new_fault, new_pieces}
+use Rattle.promql_token.proofs.cursors.CursorTokens.{new_left, new_whole, new_fault, new_pieces}
 use Rattle.promql_token.proofs.cursor.Cursor.new.Goals as goal
 
 pub returns-clause-tokens : goal.returns-clause-tokens

@@ -1,7 +1,7 @@
 use Rattle.std.proofs.Common.{◌≡◌, ◌+◌, ◌-◌, ◌∙◌, ◌∷◌, ap, sym, arith, take, drop}
 use Rattle.promql_token.specs.Cursor.{tokens_left, ends_in_fault}
 use Rattle.promql_token.specs.Lexing.{text_at}
-use Rattle.promql_token.proofs.CursorTokens.{no_token_left, none_end, some_token, past_token}
+use Rattle.promql_token.proofs.cursors.CursorTokens.{no_token_left, none_end, some_token, past_token}
 use Rattle.promql_token.proofs.cursor.Cursor.next.Goals as goal
 
 pub returns-in_default : goal.returns-in_default

@@ -1,6 +1,6 @@
 use Rattle.std.proofs.Common.{◌∙◌, ℕ, List, ap, sym}
 use denote.Bor.{Bor}
-use Rattle.promql_token.proofs.FrontTokens.{next_here, tokens_past, fault_past}
+use Rattle.promql_token.proofs.cursors.FrontTokens.{next_here, tokens_past, fault_past}
 use Rattle.promql_token.proofs.cursor.Cursor.next_if_word.Goals as goal
 
 pub take-requires : goal.take-requires

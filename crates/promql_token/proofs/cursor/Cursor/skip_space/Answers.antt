@@ -1,6 +1,6 @@
 use Rattle.std.proofs.Common.{◌≡◌, ◌∙◌, IsUtf8, ⊎_elim, ap, subst, sym}
 use Rattle.promql_token.specs.TokenScanning.{mode_after_something}
-use Rattle.promql_token.proofs.FrontTokens.{IsSpace, is_space, after_space, space_passed}
+use Rattle.promql_token.proofs.cursors.FrontTokens.{IsSpace, is_space, after_space, space_passed}
 use Rattle.promql_token.proofs.cursor.Cursor.skip_space.Goals as goal
 use Rattle.promql_token.proofs.cursor.Cursor.skip_space.Goals.{Then-byte-eq32}
 

@@ -1,8 +1,8 @@
 use Rattle.std.proofs.Common.{◌∙◌, length, drop, ap, refl, rules}
 use Rattle.promql_token.specs.Lexing.{fault_char}
 use Rattle.promql_token.specs.declared.cursor.Cursor.{Cursor}
-use Rattle.promql_token.proofs.CursorTokens.{left_past}
-use Rattle.promql_token.proofs.Items.{left_fault}
+use Rattle.promql_token.proofs.cursors.CursorTokens.{left_past}
+use Rattle.promql_token.proofs.one_reading.Items.{left_fault}
 use Rattle.promql_token.proofs.scan.LexerIterator.next.Goals as goal
 
 pub returns-in-Ok-clause-steps : goal.returns-in-Ok-clause-steps

@@ -2,7 +2,7 @@ use Rattle.std.proofs.Common.{◌≡◌, ◌+◌, ◌++◌, ◌∷◌, [], lengt
 use Rattle.std.specs.declared.boxed.Box.{Box}
 use Rattle.std.proofs.lemmas.Grind.{common_steps}
 use Rattle.promql_text.specs.PrintedLen.{cap_usize, printed_len}
-use Rattle.promql_text.proofs.PrintedLengths.{joined_len_next}
+use Rattle.promql_text.proofs.writing.PrintedLengths.{joined_len_next}
 use Rattle.promql_ast.specs.Decisions.{can_split, decisions, node_decisions, operand_decisions}
 use Rattle.promql_ast.specs.NodeView.{tree_of_node}
 use Rattle.promql_ast.specs.Nodes.{nodes, all_nodes}
@@ -10,8 +10,8 @@ use Rattle.promql_ast.specs.Text.{text}
 use Rattle.promql_ast.specs.Tree.{Tree}
 use Rattle.promql_ast.specs.View.{children_of, tree_of, trees_of}
 use Rattle.promql_ast.specs.declared.expr.Expr.{Expr}
-use Rattle.promql_ast.proofs.ExpressionLists.{decisions_step, nodes_step, nodes_of_one, len_all}
-use Rattle.promql_ast.proofs.LayoutsBy.{split_decisions}
+use Rattle.promql_ast.proofs.nodes.ExpressionLists.{decisions_step, nodes_step, nodes_of_one, len_all}
+use Rattle.promql_ast.proofs.layouts.LayoutsBy.{split_decisions}
 use Rattle.promql_ast.proofs.layout.measurer.Measurer.+measure.Goals as goal
 
 pub measure_args-measure-requires : goal.measure_args-measure-requires

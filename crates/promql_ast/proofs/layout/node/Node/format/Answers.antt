@@ -1,5 +1,5 @@
 use Rattle.std.proofs.Common.{arith}
-use Rattle.promql_ast.proofs.LayoutsBy.{lines_deepest_all, lines_laid_by}
+use Rattle.promql_ast.proofs.layouts.LayoutsBy.{lines_deepest_all, lines_laid_by}
 use Rattle.promql_ast.proofs.layout.node.Node.format.Goals as goal
 
 pub returns-clause-text : goal.returns-clause-text

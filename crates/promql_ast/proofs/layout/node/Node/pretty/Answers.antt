@@ -1,5 +1,5 @@
 use Rattle.std.proofs.Common.{arith}
-use Rattle.promql_ast.proofs.LayoutsBy.{deepest_all, laid_by}
+use Rattle.promql_ast.proofs.layouts.LayoutsBy.{deepest_all, laid_by}
 use Rattle.promql_ast.proofs.layout.node.Node.pretty.Goals as goal
 
 pub returns-clause-text : goal.returns-clause-text

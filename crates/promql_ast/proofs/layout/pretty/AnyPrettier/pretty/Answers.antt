@@ -1,5 +1,5 @@
 use Rattle.promql_ast.specs.NodeView.{tree_of_node}
-use Rattle.promql_ast.proofs.Layouts.{keeps_laid}
+use Rattle.promql_ast.proofs.layouts.Layouts.{keeps_laid}
 use Rattle.promql_ast.proofs.layout.pretty.AnyPrettier.pretty.Goals as goal
 
 pub returns-clause-keeps : goal.returns-clause-keeps

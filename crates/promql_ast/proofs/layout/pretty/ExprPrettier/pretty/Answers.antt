@@ -1,7 +1,7 @@
 use Rattle.promql_ast.specs.Layout.{layout_of}
 use Rattle.promql_ast.specs.Text.{text}
 use Rattle.promql_ast.specs.View.{tree_of}
-use Rattle.promql_ast.proofs.Layouts.{keeps_alike, laid_alike}
+use Rattle.promql_ast.proofs.layouts.Layouts.{keeps_alike, laid_alike}
 use Rattle.promql_ast.proofs.layout.pretty.ExprPrettier.pretty.Goals as goal
 
 pub returns-clause-keeps : goal.returns-clause-keeps

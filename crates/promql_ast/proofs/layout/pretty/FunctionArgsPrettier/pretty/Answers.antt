@@ -8,7 +8,7 @@ use Rattle.promql_ast.specs.Lines.{squeeze}
 use Rattle.promql_ast.specs.Text.{texts}
 use Rattle.promql_ast.specs.View.{trees_of}
 use Rattle.promql_ast.specs.declared.layout.prettier.PrettyError.TheVariants.{IndentTooWide}
-use Rattle.promql_ast.proofs.FromEmpty.{args_fit, args_squeezed, args_text, args_wide}
+use Rattle.promql_ast.proofs.layouts.FromEmpty.{args_fit, args_squeezed, args_text, args_wide}
 use Rattle.promql_ast.proofs.layout.pretty.FunctionArgsPrettier.pretty.Goals as goal
 
 pub returns-in_err-write_args-clause-wide : goal.returns-in_err-write_args-clause-wide

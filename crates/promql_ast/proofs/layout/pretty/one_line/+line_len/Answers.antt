@@ -1,14 +1,14 @@
 use Rattle.std.proofs.Common.{◌≡◌, ap, ◌∙◌, codes, arith, Global}
 use Rattle.std.specs.declared.boxed.Box.{Box}
 use Rattle.promql_text.specs.PrintedLen.{printed_len}
-use Rattle.promql_text.proofs.PrintedLengths.{joined_len_next}
+use Rattle.promql_text.proofs.writing.PrintedLengths.{joined_len_next}
 use Rattle.promql_ast.specs.NodeView.{tree_of_node}
 use Rattle.promql_ast.specs.Nodes.{nodes}
 use Rattle.promql_ast.specs.Text.{text}
 use Rattle.promql_ast.specs.Tree.{Tree}
 use Rattle.promql_ast.specs.View.{tree_of}
 use Rattle.promql_ast.specs.declared.expr.Expr.{Expr}
-use Rattle.promql_ast.proofs.ExpressionLists.{nodes_of_one, len_all}
+use Rattle.promql_ast.proofs.nodes.ExpressionLists.{nodes_of_one, len_all}
 use Rattle.promql_ast.proofs.layout.pretty.one_line.+line_len.Goals as goal
 
 pub args_len-line_len-requires : goal.args_len-line_len-requires

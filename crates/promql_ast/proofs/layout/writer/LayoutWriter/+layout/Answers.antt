@@ -9,7 +9,7 @@ use Rattle.promql_ast.specs.Nodes.{nodes}
 use Rattle.promql_ast.specs.Tree.{Tree}
 use Rattle.promql_ast.specs.View.{tree_of, trees, trees_of}
 use Rattle.promql_ast.specs.declared.expr.Expr.{Expr}
-use Rattle.promql_ast.proofs.ExpressionLists.{nodes_of_one, row_from, row_step, trees_next}
+use Rattle.promql_ast.proofs.nodes.ExpressionLists.{nodes_of_one, row_from, row_step, trees_next}
 use Rattle.promql_ast.proofs.layout.writer.LayoutWriter.+layout.Goals as goal
 
 pub write_args-write_layout-requires : goal.write_args-write_layout-requires

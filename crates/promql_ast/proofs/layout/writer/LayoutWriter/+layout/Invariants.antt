@@ -6,7 +6,7 @@ use Rattle.promql_ast.specs.Decisions.{all_rest, layouts_by, all_deepest_by}
 use Rattle.promql_ast.specs.NodeView.{tree_of_node}
 use Rattle.promql_ast.specs.Nodes.{nodes, maybe_nodes, all_nodes}
 use Rattle.promql_ast.specs.View.{option_tree, trees_of}
-use Rattle.promql_ast.proofs.ExpressionLists.{row_from}
+use Rattle.promql_ast.proofs.nodes.ExpressionLists.{row_from}
 use Rattle.promql_ast.proofs.layout.writer.LayoutWriter.+layout.Given as goal
 
 abbrev pub decreases-write_layout : goal.decreases-write_layout

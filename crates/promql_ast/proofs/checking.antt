@@ -1,0 +1,5 @@
+-- Checks of nodes and of their parts, a file a topic.
+pub mod ArgCounts
+pub mod CheckedTyped
+pub mod Fallbacks
+pub mod Typing

@@ -1,0 +1,5 @@
+-- Nodes and lists of them, as they are seen, a file a topic.
+pub mod Args
+pub mod ChangedLists
+pub mod ExpressionLists
+pub mod NodeParts

@@ -1,0 +1,5 @@
+-- Normal forms, and what prints as they do, a file a topic.
+pub mod Blank
+pub mod NormalForms
+pub mod NormalTrees
+pub mod PrintedMoments

@@ -1,0 +1,10 @@
+-- Texts and matchers in their order, a file a topic.
+pub mod Groups
+pub mod LabelRows
+pub mod OneOrder
+pub mod PrintedTexts
+pub mod RisingTexts
+pub mod SortedMatchers
+pub mod StableSort
+pub mod TextOrders
+pub mod TextRows

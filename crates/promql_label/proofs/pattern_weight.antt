@@ -1,0 +1,5 @@
+-- How much a pattern weighs, a file a topic.
+pub mod PatternMeasures
+pub mod PatternSizes
+pub mod PatternWeights
+pub mod RepeatCounts

@@ -1,0 +1,11 @@
+-- A matcher in every selector, a file a topic.
+pub mod EnforcedChecks
+pub mod EnforcedLists
+pub mod EnforcedMatchers
+pub mod EnforcedSelectors
+pub mod EnforcedTexts
+pub mod EnforcedTrees
+pub mod EnforcedTwice
+pub mod EnforcedTypes
+pub mod SameMatchers
+pub mod SecondMatchers

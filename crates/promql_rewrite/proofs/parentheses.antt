@@ -1,0 +1,6 @@
+-- Parentheses where a tree needs them, a file a topic.
+pub mod ParenFewest
+pub mod ParenOrder
+pub mod ParenPlaces
+pub mod ParenRows
+pub mod ParenTypes

@@ -1,0 +1,14 @@
+-- What is printed is read again, a file a topic.
+pub mod BuiltTrees
+pub mod ClosedTrees
+pub mod Grouped
+pub mod Judging
+pub mod NoneEmptyGroups
+pub mod NormalMatchers
+pub mod NormalPrintable
+pub mod ParsedPrintable
+pub mod PrintableByNodes
+pub mod PrintableParts
+pub mod PrintablePlaces
+pub mod PrintableTexts
+pub mod TreeRows

@@ -1,0 +1,11 @@
+-- Other names for metrics and labels, a file a topic.
+pub mod NameTokens
+pub mod RenamedAlike
+pub mod RenamedLists
+pub mod RenamedNames
+pub mod RenamedPrintable
+pub mod RenamedSelectors
+pub mod RenamedSeries
+pub mod RenamedTrees
+pub mod RenamedTyped
+pub mod RenamedTypes

@@ -1,0 +1,3 @@
+-- Well typed trees, node by node, a file a topic.
+pub mod TypedChecks
+pub mod TypedNodes
