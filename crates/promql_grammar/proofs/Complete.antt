@@ -8,9 +8,9 @@ use Rattle.promql_grammar.specs.declared.token_kinds.TokenKind.{TokenKind}
 use Rattle.promql_grammar.specs.declared.token_kinds.TokenKind.TheVariants as kind
 use Rattle.promql_grammar.specs.Results.{◌then◌}
 use Rattle.promql_grammar.specs.Symbols.{Symbol, punct, word, begins, may_begin, may_be_name, may_be_called, is_plus_or_minus, is_word_operator}
-use Rattle.promql_grammar.specs.GrammarParts.{Grouping, grouping, no_clause, before, after, bare, Matching, matching, Fills, no_fill, Braces, no_item, items, Postfix, range, subquery, at_number, at_bound, offset, mode, yield_grouping, yield_modifier, yield_braces, yield_any_braces, yield_postfix, IsClause}
-use Rattle.promql_grammar.specs.PartTokens.{IsGrouping}
-use Rattle.promql_grammar.specs.Grammar.{Derivation, number, duration, string, selector, nameless, paren, call, aggregate, postfixed, unary, binary, Arguments, none, more, yield, yield_arguments, yield_rest, precedence, openness, height, greatest_height, IsWellFormed, AreWellFormed, IsBase, OpensNoParen, FitsMatching}
+use Rattle.promql_grammar.specs.GrammarParts.{Grouping, Matching, Fills, no_fill, Braces, Postfix, range, subquery, at_number, at_bound, offset, mode, yield_grouping, yield_modifier, yield_braces, yield_postfix}
+use Rattle.promql_grammar.specs.PartTokens.{IsGrouping, yield_any_braces, IsClause, yield_rest}
+use Rattle.promql_grammar.specs.Grammar.{Derivation, number, duration, string, selector, nameless, paren, call, aggregate, postfixed, unary, binary, Arguments, none, more, yield, yield_arguments, precedence, openness, height, greatest_height, IsWellFormed, AreWellFormed, IsBase, OpensNoParen, FitsMatching}
 use Rattle.promql_grammar.specs.Parsing.{Read, Reader, right_precedence, parse_grouping, parse_modifier, parse_more_postfixes, parse_postfixes, parse_paren_end, parse_more_arguments, parse_arguments, parse_selector, parse_call, parse_grouped_aggregate, parse_aggregate, parse_unary, parse_operators, parse_expression}
 use Rattle.promql_grammar.proofs.GrammarChoices.{if_true, if_false}
 use Rattle.promql_grammar.proofs.Within.{within, within_low, within_high, within_then, within_suc, within_both, within_three}
@@ -64,8 +64,8 @@ begins_here (number t) rest h = refl
 begins_here (duration t) rest h = refl
 begins_here (string t) rest h = refl
 begins_here (selector k t b) rest h = name_begins k h
-begins_here (nameless no_item) rest h = refl
-begins_here (nameless (items is)) rest h = refl
+begins_here (nameless None) rest h = refl
+begins_here (nameless (Some is)) rest h = refl
 begins_here (paren d) rest h = refl
 begins_here (call k t ds) rest h = called_begins k h.0
 begins_here (aggregate op t c ds) rest h = refl
@@ -87,7 +87,7 @@ open_more (punct kind.LeftParen ∷ ts) us b h = h
 open_more (t ∷ ts) us b h = tt
 
 fits_more : (m : Matching) (f : Fills) (ts us : List Symbol) → begins ts ≡ true → FitsMatching m f ts → FitsMatching m f (ts ++ us)
-fits_more (matching on t ls (bare left t')) no_fill ts us b h = open_more ts us b h
+fits_more (Some (on, t, ls, (Some (left, t', None)))) no_fill ts us b h = open_more ts us b h
 fits_more m f ts us b h = tt
 
 follows_ends : (o : ℕ) (ts : List Symbol) → Follows o ts → EndsWord ts
@@ -127,16 +127,16 @@ no_postfix (suc k) n d o (punct kind.RightParen ∷ ts) h = refl
 no_postfix (suc k) n d o (punct kind.Comma ∷ ts) h = refl
 no_postfix (suc k) n d o ts h = absurd h
 
-no_clause_at : (ts : List Symbol) → EndsWord ts → parse_grouping ts ≡ Ok (no_clause, ts)
+no_clause_at : (ts : List Symbol) → EndsWord ts → parse_grouping ts ≡ Ok (None, ts)
 no_clause_at (word kind.By t ∷ ts) h = absurd h
 no_clause_at (word kind.Without t ∷ ts) h = absurd h
 no_clause_at ts h = refl
 
-is_grouping : (g : Grouping) → IsClause (after g) → IsGrouping g
-is_grouping (grouping by t ls) h = h
+is_grouping : (g : Grouping) → IsClause (Some (false, g)) → IsGrouping g
+is_grouping (by, t, ls) h = h
 
-is_first_grouping : (g : Grouping) → IsClause (before g) → IsGrouping g
-is_first_grouping (grouping by t ls) h = h
+is_first_grouping : (g : Grouping) → IsClause (Some (true, g)) → IsGrouping g
+is_first_grouping (by, t, ls) h = h
 
 module _ (r : Reader) (n : ℕ) (reads : Reads r n) where
   rest_reads : (ds : Arguments) (k : ℕ) (rest : List Symbol) → AreWellFormed ds → length (yield_rest ds) ≤ k → parse_more_arguments r k (yield_rest ds ++ rest) ≡ within n (greatest_height ds) (Ok (ds, rest))
@@ -155,7 +155,7 @@ module _ (r : Reader) (n : ℕ) (reads : Reads r n) where
   arguments_open (punct kind.RightParen ∷ ts) h = absurd h
   arguments_open ts h = refl
 
-  arguments_reads : (ds : Arguments) (rest : List Symbol) → AreWellFormed ds → parse_arguments r (yield_arguments ds ++ rest) ≡ within n (greatest_height ds) (Ok (ds, rest))
+  arguments_reads : (ds : Arguments) (rest : List Symbol) → AreWellFormed ds → parse_arguments r (yield_arguments [] ds ++ rest) ≡ within n (greatest_height ds) (Ok (ds, rest))
   arguments_reads none rest h = sym (within_low n 0 (Ok (none, rest)) (omega arith))
   arguments_reads (more d ds) rest h =
       let k = length (yield d ++ (yield_rest ds ++ rest)) in
@@ -179,8 +179,8 @@ module _ (r : Reader) (n : ℕ) (reads : Reads r n) where
 
   -- a word that is no call
   no_call : (w : TokenKind) (t : Text) (k : ℕ) (b : Option Braces) (rest : List Symbol) → EndsWord rest → parse_call r k (suc n) w t (yield_any_braces b ++ rest) ≡ parse_selector k (suc n) w t (yield_any_braces b ++ rest)
-  no_call w t k (Some no_item) rest h = refl
-  no_call w t k (Some (items is)) rest h = refl
+  no_call w t k (Some None) rest h = refl
+  no_call w t k (Some (Some is)) rest h = refl
   no_call w t k None rest h = go rest h
     where
       go : (ts : List Symbol) → EndsWord ts → parse_call r k (suc n) w t ts ≡ parse_selector k (suc n) w t ts
@@ -188,8 +188,8 @@ module _ (r : Reader) (n : ℕ) (reads : Reads r n) where
       go ts h = refl
 
   no_aggregation : (op : ℕ) (t : Text) (k : ℕ) (b : Option Braces) (rest : List Symbol) → EndsWord rest → parse_aggregate r k (suc n) op t (yield_any_braces b ++ rest) ≡ parse_selector k (suc n) (kind.Aggregator op) t (yield_any_braces b ++ rest)
-  no_aggregation op t k (Some no_item) rest h = refl
-  no_aggregation op t k (Some (items is)) rest h = refl
+  no_aggregation op t k (Some None) rest h = refl
+  no_aggregation op t k (Some (Some is)) rest h = refl
   no_aggregation op t k None rest h = go rest h
     where
       go : (ts : List Symbol) → EndsWord ts → parse_aggregate r k (suc n) op t ts ≡ parse_selector k (suc n) (kind.Aggregator op) t ts
@@ -220,20 +220,20 @@ module _ (r : Reader) (n : ℕ) (reads : Reads r n) where
   first_called w t k ts h = cc
 
   -- a grouping before arguments
-  first_grouped : (op : ℕ) (t : Text) (g : Grouping) (k : ℕ) (ts : List Symbol) → IsGrouping g → parse_unary r k (suc n) (word (kind.Aggregator op) t ∷ (yield_grouping g ++ punct kind.LeftParen ∷ ts)) ≡ (parse_arguments r ts then λ y. parse_postfixes k (suc n) (aggregate op t (before g) y.0) y.1)
-  first_grouped op t (grouping true u ls) k ts h = ap (λ o. o then λ l. parse_grouped_aggregate r k (suc n) op t (grouping true u l.0) l.1) (labels_reads ls (punct kind.LeftParen ∷ ts) h)
-  first_grouped op t (grouping false u ls) k ts h = ap (λ o. o then λ l. parse_grouped_aggregate r k (suc n) op t (grouping false u l.0) l.1) (labels_reads ls (punct kind.LeftParen ∷ ts) h)
+  first_grouped : (op : ℕ) (t : Text) (g : Grouping) (k : ℕ) (ts : List Symbol) → IsGrouping g → parse_unary r k (suc n) (word (kind.Aggregator op) t ∷ (yield_grouping g ++ punct kind.LeftParen ∷ ts)) ≡ (parse_arguments r ts then λ y. parse_postfixes k (suc n) (aggregate op t (Some (true, g)) y.0) y.1)
+  first_grouped op t (true, u, ls) k ts h = ap (λ o. o then λ l. parse_grouped_aggregate r k (suc n) op t (true, u, l.0) l.1) (labels_reads ls (punct kind.LeftParen ∷ ts) h)
+  first_grouped op t (false, u, ls) k ts h = ap (λ o. o then λ l. parse_grouped_aggregate r k (suc n) op t (false, u, l.0) l.1) (labels_reads ls (punct kind.LeftParen ∷ ts) h)
 
-  clause_after : (g : Grouping) (rest : List Symbol) → IsGrouping g → parse_grouping (yield_grouping g ++ rest) ≡ Ok (after g, rest)
-  clause_after (grouping true u ls) rest h = ap (λ o. o then λ l. Ok (after (grouping true u l.0), l.1)) (labels_reads ls rest h)
-  clause_after (grouping false u ls) rest h = ap (λ o. o then λ l. Ok (after (grouping false u l.0), l.1)) (labels_reads ls rest h)
+  clause_after : (g : Grouping) (rest : List Symbol) → IsGrouping g → parse_grouping (yield_grouping g ++ rest) ≡ Ok (Some (false, g), rest)
+  clause_after (true, u, ls) rest h = ap (λ o. o then λ l. Ok (Some (false, (true, u, l.0)), l.1)) (labels_reads ls rest h)
+  clause_after (false, u, ls) rest h = ap (λ o. o then λ l. Ok (Some (false, (false, u, l.0)), l.1)) (labels_reads ls rest h)
 
   first_nameless : (b : Braces) (k : ℕ) (rest : List Symbol) → parse_unary r k (suc n) (yield_braces b ++ rest) ≡ parse_postfixes k (suc n) (nameless b) rest
-  first_nameless no_item k rest = refl
-  first_nameless (items is) k rest = ap (λ o. o then λ b. parse_postfixes k (suc n) (nameless b.0) b.1) (braces_in_reads (items is) rest)
+  first_nameless None k rest = refl
+  first_nameless (Some is) k rest = ap (λ o. o then λ b. parse_postfixes k (suc n) (nameless b.0) b.1) (braces_in_reads (Some is) rest)
 
   -- the arguments of a form and what goes on with it
-  arguments_then : (form : Arguments → Derivation) (ds : Arguments) (k j : ℕ) (ts rest : List Symbol) (go : Arguments → List Symbol → Read Derivation) → k ≡ j → height (form ds) ≡ 1 + greatest_height ds → AreWellFormed ds → go ds rest ≡ parse_postfixes k (suc n) (form ds) ts → (parse_arguments r (yield_arguments ds ++ rest) then λ y. go y.0 y.1) ≡ within (suc n) (height (form ds)) (parse_postfixes j (suc n) (form ds) ts)
+  arguments_then : (form : Arguments → Derivation) (ds : Arguments) (k j : ℕ) (ts rest : List Symbol) (go : Arguments → List Symbol → Read Derivation) → k ≡ j → height (form ds) ≡ 1 + greatest_height ds → AreWellFormed ds → go ds rest ≡ parse_postfixes k (suc n) (form ds) ts → (parse_arguments r (yield_arguments [] ds ++ rest) then λ y. go y.0 y.1) ≡ within (suc n) (height (form ds)) (parse_postfixes j (suc n) (form ds) ts)
   arguments_then form ds k j ts rest go e h w s =
       ap (λ o. o then λ y. go y.0 y.1) (arguments_reads ds rest w)
       ∙ within_then n (greatest_height ds) (Ok (ds, rest)) (λ y. go y.0 y.1)
@@ -253,18 +253,18 @@ module _ (r : Reader) (n : ℕ) (reads : Reads r n) where
       ∙ within_then n (height d) (Ok (d, punct kind.RightParen ∷ rest)) (λ x. parse_paren_end k (suc n) x.0 x.1)
       ∙ within_suc n (height d) (1 + height d) (parse_postfixes k (suc n) (paren d) rest) refl
       ∙ ap (λ i. within (suc n) (1 + height d) (parse_postfixes i (suc n) (paren d) rest)) f
-  bases (call w t ds) k j rest e h b o = first_called w t k (yield_arguments ds ++ rest) h.0 ∙ arguments_then (call w t) ds k j rest rest (λ ds ts. parse_postfixes k (suc n) (call w t ds) ts) (omega arith) refl h.1 refl
-  bases (aggregate op t no_clause ds) k j rest e h b o =
-      ap (λ ts. parse_arguments r ts then λ y. parse_grouping y.1 then λ c. parse_postfixes k (suc n) (aggregate op t c.0 y.0) c.1) (append_assoc (yield_arguments ds) [] rest)
-      ∙ arguments_then (aggregate op t no_clause) ds k j rest rest (λ ds ts. parse_grouping ts then λ c. parse_postfixes k (suc n) (aggregate op t c.0 ds) c.1) (omega arith) refl h.1 (ap (λ o. o then λ c. parse_postfixes k (suc n) (aggregate op t c.0 ds) c.1) (no_clause_at rest o))
-  bases (aggregate op t (after g) ds) k j rest e h b o =
-      ap (λ ts. parse_arguments r ts then λ y. parse_grouping y.1 then λ c. parse_postfixes k (suc n) (aggregate op t c.0 y.0) c.1) (append_assoc (yield_arguments ds) (yield_grouping g) rest)
-      ∙ arguments_then (aggregate op t (after g)) ds k j rest (yield_grouping g ++ rest) (λ ds ts. parse_grouping ts then λ c. parse_postfixes k (suc n) (aggregate op t c.0 ds) c.1) (omega arith) refl h.1 (ap (λ o. o then λ c. parse_postfixes k (suc n) (aggregate op t c.0 ds) c.1) (clause_after g rest (is_grouping g h.0)))
-  bases (aggregate op t (before g) ds) k j rest e h b o =
-      ap (λ ts. parse_unary r k (suc n) (word (kind.Aggregator op) t ∷ ts)) (append_assoc (yield_grouping g) (punct kind.LeftParen ∷ (yield_arguments ds ++ [])) rest)
-      ∙ first_grouped op t g k ((yield_arguments ds ++ []) ++ rest) (is_first_grouping g h.0)
-      ∙ ap (λ ts. parse_arguments r ts then λ y. parse_postfixes k (suc n) (aggregate op t (before g) y.0) y.1) (append_assoc (yield_arguments ds) [] rest)
-      ∙ arguments_then (aggregate op t (before g)) ds k j rest rest (λ ds ts. parse_postfixes k (suc n) (aggregate op t (before g) ds) ts) (omega arith) refl h.1 refl
+  bases (call w t ds) k j rest e h b o = first_called w t k (yield_arguments [] ds ++ rest) h.0 ∙ arguments_then (call w t) ds k j rest rest (λ ds ts. parse_postfixes k (suc n) (call w t ds) ts) (omega arith) refl h.1 refl
+  bases (aggregate op t None ds) k j rest e h b o =
+      ap (λ ts. parse_arguments r ts then λ y. parse_grouping y.1 then λ c. parse_postfixes k (suc n) (aggregate op t c.0 y.0) c.1) (append_assoc (yield_arguments [] ds) [] rest)
+      ∙ arguments_then (aggregate op t None) ds k j rest rest (λ ds ts. parse_grouping ts then λ c. parse_postfixes k (suc n) (aggregate op t c.0 ds) c.1) (omega arith) refl h.1 (ap (λ o. o then λ c. parse_postfixes k (suc n) (aggregate op t c.0 ds) c.1) (no_clause_at rest o))
+  bases (aggregate op t (Some (false, g)) ds) k j rest e h b o =
+      ap (λ ts. parse_arguments r ts then λ y. parse_grouping y.1 then λ c. parse_postfixes k (suc n) (aggregate op t c.0 y.0) c.1) (append_assoc (yield_arguments [] ds) (yield_grouping g) rest)
+      ∙ arguments_then (aggregate op t (Some (false, g))) ds k j rest (yield_grouping g ++ rest) (λ ds ts. parse_grouping ts then λ c. parse_postfixes k (suc n) (aggregate op t c.0 ds) c.1) (omega arith) refl h.1 (ap (λ o. o then λ c. parse_postfixes k (suc n) (aggregate op t c.0 ds) c.1) (clause_after g rest (is_grouping g h.0)))
+  bases (aggregate op t (Some (true, g)) ds) k j rest e h b o =
+      ap (λ ts. parse_unary r k (suc n) (word (kind.Aggregator op) t ∷ ts)) (append_assoc (yield_grouping g) (punct kind.LeftParen ∷ (yield_arguments [] ds ++ [])) rest)
+      ∙ first_grouped op t g k ((yield_arguments [] ds ++ []) ++ rest) (is_first_grouping g h.0)
+      ∙ ap (λ ts. parse_arguments r ts then λ y. parse_postfixes k (suc n) (aggregate op t (Some (true, g)) y.0) y.1) (append_assoc (yield_arguments [] ds) [] rest)
+      ∙ arguments_then (aggregate op t (Some (true, g))) ds k j rest rest (λ ds ts. parse_postfixes k (suc n) (aggregate op t (Some (true, g)) ds) ts) (omega arith) refl h.1 refl
   bases (postfixed d p) k j rest e h b o =
       let same : max (height d) (height (postfixed d p)) ≡ height (postfixed d p) = omega arith in
       ap (parse_unary r k (suc n)) (append_assoc (yield d) (yield_postfix p) rest)
@@ -304,7 +304,7 @@ module _ (r : Reader) (n : ℕ) (reads : Reads r n) where
       ∙ climbs a m (suc j) k l (word (kind.Operator op) t ∷ ((yield_modifier w ++ yield b) ++ rest)) (omega arith) le h.0 (root_left m op a q h.3) h.3
       ∙ ap (within (suc n) (height a)) (sym (cond_above (precedence op) m (Ok (a, word (kind.Operator op) t ∷ ((yield_modifier w ++ yield b) ++ rest))) _ _ q refl)
       ∙ ap (λ ts. within n (height a) (parse_modifier ts then λ y. r (right_precedence op) y.1 then λ x. parse_operators r j n m (binary op t y.0 a x.0) x.1)) (append_assoc (yield_modifier w) (yield b) rest)
-      ∙ ap (λ o. within n (height a) (o then λ y. r (right_precedence op) y.1 then λ x. parse_operators r j n m (binary op t y.0 a x.0) x.1)) (modifier_reads w us h.2 (begins_here b rest h.1) (fits_more w.matching w.fills (yield b) rest (ap begins (sym (append-nil (yield b))) ∙ begins_here b [] h.1) h.5))
+      ∙ ap (λ o. within n (height a) (o then λ y. r (right_precedence op) y.1 then λ x. parse_operators r j n m (binary op t y.0 a x.0) x.1)) (modifier_reads w us h.2 (begins_here b rest h.1) (fits_more w.1 w.2 (yield b) rest (ap begins (sym (append-nil (yield b))) ∙ begins_here b [] h.1) h.5))
       ∙ ap (λ o. within n (height a) (o then λ x. parse_operators r j n m (binary op t w a x.0) x.1)) (reads.by b (right_precedence op) rest h.1 (root_right op b h.4) g.0 g.1)
       ∙ ap (within n (height a)) (within_then n (height b) (Ok (b, rest)) (λ x. parse_operators r j n m (binary op t w a x.0) x.1)))
       ∙ within_three n (height a) (height b) (parse_operators r j n m (binary op t w a b) rest)

@@ -7,7 +7,7 @@ use Rattle.promql_grammar.specs.declared.token_kinds.TokenKind.{TokenKind}
 use Rattle.promql_grammar.specs.declared.token_kinds.TokenKind.TheVariants as kind
 use Rattle.promql_grammar.specs.Results.{◌then◌}
 use Rattle.promql_grammar.specs.Symbols.{Symbol, punct, word, is_plus_or_minus, may_be_name}
-use Rattle.promql_grammar.specs.GrammarParts.{Labels, Grouping, grouping, before, Postfix, mode}
+use Rattle.promql_grammar.specs.GrammarParts.{Labels, Grouping, Postfix, mode}
 use Rattle.promql_grammar.specs.Grammar.{Derivation, number, duration, string, selector, nameless, paren, call, aggregate, postfixed, unary, binary, Arguments, none, more, precedence, height}
 use Rattle.promql_grammar.specs.Parsing.{Read, Reader, misfit, too_high, right_precedence, parse_time, parse_labels, parse_grouping, parse_modifier, parse_braces, parse_optional_braces, parse_range_end, parse_at_modifier, parse_offset_postfix, parse_postfix, parse_more_postfixes, parse_postfixes, parse_paren_end, parse_more_arguments, parse_arguments, parse_selector, parse_call, parse_grouped_aggregate, parse_aggregate, parse_unary, parse_operators, parse_expression}
 use Rattle.promql_grammar.proofs.Prefixes.{IsEnd, Ends, whole_end, Local, two, Agrees, local_ok, local_misfit, local_high, local_then, Step, takes, stays, local_by_first, local_bounded, local_by_length}
@@ -130,13 +130,13 @@ module _ (x : Symbol) (rest other : List Symbol) where
           step u = stays (selectors k w t) (selectors j w t) (selectors_local w t) (λ ts. cond-true (may_be_name w) _ _ may) (λ ts. cond-true (may_be_name w) _ _ may)
 
       abbrev groups : ℕ → ℕ → Text → Grouping → List Symbol → Read Derivation
-      groups i op t g ts = parse_arguments r ts then λ y. parse_postfixes i n (aggregate op t (before g) y.0) y.1
+      groups i op t g ts = parse_arguments r ts then λ y. parse_postfixes i n (aggregate op t (Some (true, g)) y.0) y.1
 
       grouped_local : (op : ℕ) (t : Text) (g : Grouping) → Local x rest other k j (parse_grouped_aggregate r k n op t g) (parse_grouped_aggregate r j n op t g)
       grouped_local op t g = local_by_first x rest other k j k j (parse_grouped_aggregate r k n op t g) (parse_grouped_aggregate r j n op t g) (omega arith) (omega arith) (whole_end []) step
         where
           step : (u : Symbol) → Reads (parse_grouped_aggregate r k n op t g) (parse_grouped_aggregate r j n op t g) u
-          step (punct kind.LeftParen) = takes (groups k op t g) (groups j op t g) (then_postfixes (parse_arguments r) (aggregate op t (before g)) (arguments_local k j)) (λ ts. refl) (λ ts. refl)
+          step (punct kind.LeftParen) = takes (groups k op t g) (groups j op t g) (then_postfixes (parse_arguments r) (aggregate op t (Some (true, g))) (arguments_local k j)) (λ ts. refl) (λ ts. refl)
           step u = stays (λ ts. Err (misfit ts)) (λ ts. Err (misfit ts)) (local_misfit x rest other k j) (λ ts. refl) (λ ts. refl)
 
       abbrev clauses : ℕ → ℕ → Text → List Symbol → Read Derivation
@@ -158,8 +158,8 @@ module _ (x : Symbol) (rest other : List Symbol) where
         where
           step : (u : Symbol) → Reads (parse_aggregate r k n op t) (parse_aggregate r j n op t) u
           step (punct kind.LeftParen) = takes (clauses k op t) (clauses j op t) (clauses_local op t) (λ ts. refl) (λ ts. refl)
-          step (word kind.By u) = takes (grouped k op t (grouping true u)) (grouped j op t (grouping true u)) (labelled_local op t (grouping true u)) (λ ts. refl) (λ ts. refl)
-          step (word kind.Without u) = takes (grouped k op t (grouping false u)) (grouped j op t (grouping false u)) (labelled_local op t (grouping false u)) (λ ts. refl) (λ ts. refl)
+          step (word kind.By u) = takes (grouped k op t (λ ls. (true, u, ls))) (grouped j op t (λ ls. (true, u, ls))) (labelled_local op t (λ ls. (true, u, ls))) (λ ts. refl) (λ ts. refl)
+          step (word kind.Without u) = takes (grouped k op t (λ ls. (false, u, ls))) (grouped j op t (λ ls. (false, u, ls))) (labelled_local op t (λ ls. (false, u, ls))) (λ ts. refl) (λ ts. refl)
           step u = stays (selectors k (kind.Aggregator op) t) (selectors j (kind.Aggregator op) t) (selectors_local (kind.Aggregator op) t) (λ ts. refl) (λ ts. refl)
 
       paren_end_local : (d : Derivation) → Local x rest other k j (parse_paren_end k n d) (parse_paren_end j n d)

@@ -5,10 +5,10 @@ use Rattle.promql_text.specs.Texts.{Text}
 use Rattle.promql_grammar.specs.declared.token_kinds.TokenKind.{TokenKind}
 use Rattle.promql_grammar.specs.declared.token_kinds.TokenKind.TheVariants as kind
 use Rattle.promql_grammar.specs.Symbols.{Symbol, punct, word, may_be_name, may_be_label, may_be_called}
-use Rattle.promql_grammar.specs.GrammarParts.{Time, seconds, duration, Signed, unsigned, signed, Labels, no_label, last, next, Grouping, grouping, Clause, before, after, Group, no_group, bare, listed, Matching, no_matching, matching, FillValue, Fills, no_fill, both, one, two, Modifier, MatchOperator, equal, not_equal, equal_regex, not_equal_regex, Item, matcher, lone, Separator, comma, or, Items, last_item, last_item_comma, next_item, Braces, no_item, items, Postfix, range, subquery, at_number, at_bound, offset, mode, yield_time, yield_signed, yield_names, yield_labels, yield_grouping, yield_before, yield_after, yield_group, yield_matching, yield_value, yield_side, yield_fills, yield_modifier, yield_match_operator, yield_item, yield_items, yield_separator, yield_braces, yield_any_braces, yield_postfix, IsLabels, IsClause, IsGroup, IsMatching}
-use Rattle.promql_grammar.specs.PartTokens.{IsGrouping, yield_flag, yield_step}
+use Rattle.promql_grammar.specs.GrammarParts.{Time, seconds, duration, Signed, Labels, no_label, last, next, Grouping, Clause, Group, Matching, FillValue, Fills, no_fill, both, one, two, Modifier, MatchOperator, equal, not_equal, equal_regex, not_equal_regex, Item, matcher, lone, Separator, Items, last_item, next_item, Braces, Postfix, range, subquery, at_number, at_bound, offset, mode, yield_time, yield_signed, yield_names, yield_labels, yield_grouping, yield_before, yield_after, yield_group, yield_matching, yield_value, yield_side, yield_fills, yield_modifier, yield_match_operator, yield_item, yield_items, yield_separator, yield_braces, yield_postfix, IsLabels, IsMatching}
+use Rattle.promql_grammar.specs.PartTokens.{IsGrouping, yield_flag, yield_step, yield_any_braces, IsClause, IsGroup, yield_rest}
 use Rattle.promql_grammar.specs.Grammar as grammar
-use Rattle.promql_grammar.specs.Grammar.{Derivation, Arguments, selector, nameless, paren, call, aggregate, postfixed, unary, binary, none, more, yield, yield_arguments, yield_rest, IsWellFormed, AreWellFormed}
+use Rattle.promql_grammar.specs.Grammar.{Derivation, Arguments, selector, nameless, paren, call, aggregate, postfixed, unary, binary, none, more, yield, yield_arguments, IsWellFormed, AreWellFormed}
 
 abbrev pub is_known : TokenKind → Bool
 is_known kind.Other = false
@@ -38,8 +38,8 @@ known_time (seconds text) = (refl, tt)
 known_time (duration text) = (refl, tt)
 
 known_signed : (s : Signed) → AreKnown (yield_signed s)
-known_signed unsigned = tt
-known_signed (signed minus text) = (refl, tt)
+known_signed None = tt
+known_signed (Some (minus, text)) = (refl, tt)
 
 -- a word that is one of two
 known_either : (b : Bool) (k j : TokenKind) → is_known k ≡ true → is_known j ≡ true → is_known (if b then k else j) ≡ true
@@ -55,27 +55,27 @@ known_labels : (ls : Labels) → IsLabels ls → AreKnown (yield_labels ls)
 known_labels ls h = known_names ls h
 
 known_grouping : (g : Grouping) → IsGrouping g → AreKnown (yield_grouping g)
-known_grouping (grouping by text ls) h = (known_either by kind.By kind.Without refl refl, known_labels ls h)
+known_grouping (by, text, ls) h = (known_either by kind.By kind.Without refl refl, known_labels ls h)
 
 known_before : (c : Clause) → IsClause c → AreKnown (yield_before c)
-known_before (before (grouping by text ls)) h = known_grouping (grouping by text ls) h
+known_before (Some (true, (by, text, ls))) h = known_grouping (by, text, ls) h
 known_before c h = tt
 
 known_after : (c : Clause) → IsClause c → AreKnown (yield_after c)
-known_after (after (grouping by text ls)) h = known_grouping (grouping by text ls) h
+known_after (Some (false, (by, text, ls))) h = known_grouping (by, text, ls) h
 known_after c h = tt
 
 known_group : (g : Group) → IsGroup g → AreKnown (yield_group g)
-known_group no_group h = tt
-known_group (bare left text) h = (known_either left kind.GroupLeft kind.GroupRight refl refl, tt)
-known_group (listed left text ls) h = (known_either left kind.GroupLeft kind.GroupRight refl refl, known_labels ls h)
+known_group None h = tt
+known_group (Some (left, text, None)) h = (known_either left kind.GroupLeft kind.GroupRight refl refl, tt)
+known_group (Some (left, text, Some ls)) h = (known_either left kind.GroupLeft kind.GroupRight refl refl, known_labels ls h)
 
 known_matching : (m : Matching) → IsMatching m → AreKnown (yield_matching m)
-known_matching no_matching h = tt
-known_matching (matching on text ls g) h = (known_either on kind.On kind.Ignoring refl refl, known_append (yield_labels ls) (yield_group g) (known_labels ls h.0) (known_group g h.1))
+known_matching None h = tt
+known_matching (Some (on, text, ls, g)) h = (known_either on kind.On kind.Ignoring refl refl, known_append (yield_labels ls) (yield_group g) (known_labels ls h.0) (known_group g h.1))
 
 known_value : (v : FillValue) → AreKnown (yield_value v)
-known_value v = known_append (yield_signed v.sign) (word kind.Number v.number ∷ punct kind.RightParen ∷ []) (known_signed v.sign) (refl, tt)
+known_value v = known_append (yield_signed v.0) (word kind.Number v.1 ∷ punct kind.RightParen ∷ []) (known_signed v.0) (refl, tt)
 
 known_side : (left : Bool) (text : Text) (v : FillValue) → AreKnown (yield_side left text v)
 known_side left text v = (known_either left kind.FillLeft kind.FillRight refl refl, known_value v)
@@ -90,10 +90,10 @@ known_flag : (flag : Option Text) → AreKnown (yield_flag flag)
 known_flag None = tt
 known_flag (Some text) = (refl, tt)
 
-known_modifier : (m : Modifier) → IsMatching m.matching → AreKnown (yield_modifier m)
+known_modifier : (m : Modifier) → IsMatching m.1 → AreKnown (yield_modifier m)
 known_modifier m h =
-    known_append (yield_flag m.flag) (yield_matching m.matching ++ yield_fills m.fills) (known_flag m.flag)
-    (known_append (yield_matching m.matching) (yield_fills m.fills) (known_matching m.matching h) (known_fills m.fills))
+    known_append (yield_flag m.0) (yield_matching m.1 ++ yield_fills m.2) (known_flag m.0)
+    (known_append (yield_matching m.1) (yield_fills m.2) (known_matching m.1 h) (known_fills m.2))
 
 known_match_operator : (s : MatchOperator) (ts : List Symbol) → AreKnown ts → AreKnown (yield_match_operator s ∷ ts)
 known_match_operator equal ts k = k
@@ -106,17 +106,17 @@ known_item (matcher quoted text s value) = (known_either quoted kind.String kind
 known_item (lone text) = (refl, tt)
 
 known_separator : (s : Separator) (ts : List Symbol) → AreKnown ts → AreKnown (yield_separator s ∷ ts)
-known_separator comma ts k = k
-known_separator (or text) ts k = (refl, k)
+known_separator None ts k = k
+known_separator (Some text) ts k = (refl, k)
 
 known_items : (is : Items) → AreKnown (yield_items is)
-known_items (last_item i) = known_append (yield_item i) (punct kind.RightBrace ∷ []) (known_item i) tt
-known_items (last_item_comma i) = known_append (yield_item i) (punct kind.Comma ∷ punct kind.RightBrace ∷ []) (known_item i) tt
+known_items (last_item i false) = known_append (yield_item i) (punct kind.RightBrace ∷ []) (known_item i) tt
+known_items (last_item i true) = known_append (yield_item i) (punct kind.Comma ∷ punct kind.RightBrace ∷ []) (known_item i) tt
 known_items (next_item i s is) = known_append (yield_item i) (yield_separator s ∷ yield_items is) (known_item i) (known_separator s (yield_items is) (known_items is))
 
 known_braces : (b : Braces) → AreKnown (yield_braces b)
-known_braces no_item = tt
-known_braces (items is) = known_items is
+known_braces None = tt
+known_braces (Some is) = known_items is
 
 known_any_braces : (b : Option Braces) → AreKnown (yield_any_braces b)
 known_any_braces None = tt
@@ -147,8 +147,8 @@ mutual
   known_yield (call k text ds) h = (known_if may_be_called k refl h.0, known_arguments ds h.1)
   known_yield (aggregate op text c ds) h = (
     refl,
-    known_append (yield_before c) (punct kind.LeftParen ∷ (yield_arguments ds ++ yield_after c)) (known_before c h.0)
-        (known_append (yield_arguments ds) (yield_after c) (known_arguments ds h.1) (known_after c h.0)),
+    known_append (yield_before c) (punct kind.LeftParen ∷ (yield_arguments [] ds ++ yield_after c)) (known_before c h.0)
+        (known_append (yield_arguments [] ds) (yield_after c) (known_arguments ds h.1) (known_after c h.0)),
   )
   known_yield (postfixed d p) h = known_append (yield d) (yield_postfix p) (known_yield d h.0) (known_postfix p)
   known_yield (unary op text d) h = (refl, known_yield d h.1)
@@ -156,7 +156,7 @@ mutual
       known_append (yield a) (word (kind.Operator op) text ∷ (yield_modifier m ++ yield b)) (known_yield a h.0)
       (refl, known_append (yield_modifier m) (yield b) (known_modifier m h.2) (known_yield b h.1))
 
-  known_arguments : (ds : Arguments) → AreWellFormed ds → AreKnown (yield_arguments ds)
+  known_arguments : (ds : Arguments) → AreWellFormed ds → AreKnown (yield_arguments [] ds)
   known_arguments none h = tt
   known_arguments (more d ds) h = known_append (yield d) (yield_rest ds) (known_yield d h.0) (known_rest ds h.1)
 

@@ -8,7 +8,7 @@ use Rattle.promql_grammar.specs.declared.matcher_tokens.MatchOperator.TheVariant
 use Rattle.promql_grammar.specs.declared.token_kinds.TokenKind.{TokenKind}
 use Rattle.promql_grammar.specs.declared.token_kinds.TokenKind.TheVariants as kind
 use Rattle.promql_grammar.specs.Symbols.{Symbol, punct, word, symbol}
-use Rattle.promql_grammar.specs.GrammarParts.{equal, not_equal, equal_regex, not_equal_regex, comma}
+use Rattle.promql_grammar.specs.GrammarParts.{equal, not_equal, equal_regex, not_equal_regex}
 use Rattle.promql_grammar.specs.Parsing.{parse_match_operator}
 use Rattle.promql_grammar.specs.Eating.{HasNo}
 use Rattle.promql_grammar.specs.MatcherTokens.{operator_of_part, match_operator_of, IsMatchOperator, ParsesItemEnd, joins, parse_item_end}
@@ -43,4 +43,4 @@ no_match_operator k t ts none = refl
 -- a comma that no closing brace follows joins the next matcher
 pub comma_joins : (ts us : List Symbol) → HasNo kind.RightBrace ts → us ≡ ts → ParsesItemEnd (Some false) us (parse_item_end (punct kind.Comma ∷ ts))
 comma_joins (punct kind.RightBrace ∷ ts) us none same = absurd (none refl)
-comma_joins ts us none same = record { end = joins comma; is = ap (λ us. Ok (joins comma, us)) (sym same); same = refl }
+comma_joins ts us none same = record { end = joins None; is = ap (λ us. Ok (joins None, us)) (sym same); same = refl }

@@ -42,17 +42,17 @@ module _ (n : ℕ) (front : List Symbol) where
 pub misfits : (n : ℕ) (ts us : List Symbol) → parse_expression n 0 ts ≡ Err (misfit us) → AreMisfits ts us
 misfits n ts us is =
     let e = misfit_ends n ts us is in
-    record { front = e.0; splits = e.1; none = none_fits n e.0 us (ap (parse_expression n 0) (sym e.1) ∙ is) }
+    (e.0, e.1, none_fits n e.0 us (ap (parse_expression n 0) (sym e.1) ∙ is))
 
 pub misfits_after : (n : ℕ) (ts : List Symbol) (x : Symbol) (us : List Symbol) (d : Derivation) → parse_expression n 0 ts ≡ Ok (d, x ∷ us) → AreMisfits ts (x ∷ us)
 misfits_after n ts x us d is =
     let e = left_ends n ts d (x ∷ us) is in
-    record { front = e.0; splits = e.1; none = none_fits_after n e.0 x us d (ap (parse_expression n 0) (sym e.1) ∙ is) }
+    (e.0, e.1, none_fits_after n e.0 x us d (ap (parse_expression n 0) (sym e.1) ∙ is))
 
 -- so none has all the tokens
 pub none_spells : (ts rest : List Symbol) → AreMisfits ts rest → (d : Derivation) → IsWellFormed d → yield d ≡ ts → ⊥
-none_spells ts rest are d formed spells = go rest are.none (spells ∙ are.splits)
+none_spells ts rest are d formed spells = go rest are.2 (spells ∙ are.1)
   where
-    go : (us : List Symbol) → NoneFits are.front us → yield d ≡ are.front ++ us → ⊥
-    go [] none is = none d formed (is ∙ append-nil are.front)
+    go : (us : List Symbol) → NoneFits are.0 us → yield d ≡ are.0 ++ us → ⊥
+    go [] none is = none d formed (is ∙ append-nil are.0)
     go (x ∷ us) none is = none d us formed is

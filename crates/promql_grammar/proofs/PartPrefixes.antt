@@ -8,7 +8,7 @@ use Rattle.promql_grammar.specs.declared.token_kinds.TokenKind.{TokenKind}
 use Rattle.promql_grammar.specs.declared.token_kinds.TokenKind.TheVariants as kind
 use Rattle.promql_grammar.specs.Results.{◌then◌}
 use Rattle.promql_grammar.specs.Symbols.{Symbol, punct, word, may_be_label}
-use Rattle.promql_grammar.specs.GrammarParts.{Time, seconds, duration, Signed, unsigned, signed, Labels, no_label, last, next, grouping, no_clause, after, no_group, bare, listed, no_matching, matching, FillValue, no_fill, both, one, two, MatchOperator, equal, not_equal, equal_regex, not_equal_regex, Item, matcher, lone, comma, or, Items, last_item, last_item_comma, next_item, Braces, no_item, items, Postfix, range, subquery, at_number, at_bound, offset}
+use Rattle.promql_grammar.specs.GrammarParts.{Time, seconds, duration, Signed, Labels, no_label, last, next, FillValue, no_fill, both, one, two, MatchOperator, equal, not_equal, equal_regex, not_equal_regex, Item, matcher, lone, Items, last_item, next_item, Braces, Postfix, range, subquery, at_number, at_bound, offset}
 use Rattle.promql_grammar.specs.Parsing.{Read, misfit, parse_time, eat_sign, parse_number, parse_string, parse_label_list, parse_labels, parse_grouping, parse_group_labels, parse_group, parse_matching_after, parse_matching, parse_fill_value_end, parse_fill_value, parse_fill_right, parse_fill_left, parse_fills, parse_flag, with_fills, with_matching, parse_modifier, parse_match_operator, parse_matcher_value, parse_after_name, parse_after_string, parse_item, parse_after_item, parse_items, parse_braces, parse_optional_braces, parse_step_end, parse_step, parse_range_end, parse_at_bound, parse_at_modifier, parse_offset_postfix}
 use Rattle.promql_grammar.proofs.Prefixes.{Ends, whole_end, Local, local_ok, local_misfit, local_then, Step, takes, stays, local_by_first, local_bounded, local_by_length}
 
@@ -31,8 +31,8 @@ label_bad k t ts none = cond-false (may_be_label k) _ _ none
 
 -- matchers after a comma
 after_item_comma : (List Symbol → Read Items) → Item → List Symbol → Read Items
-after_item_comma r i (punct kind.RightBrace ∷ ts) = Ok (last_item_comma i, ts)
-after_item_comma r i ts = r ts then λ y. Ok (next_item i comma y.0, y.1)
+after_item_comma r i (punct kind.RightBrace ∷ ts) = Ok (last_item i true, ts)
+after_item_comma r i ts = r ts then λ y. Ok (next_item i None y.0, y.1)
 
 item_comma : (r : List Symbol → Read Items) (i : Item) (ts : List Symbol) → parse_after_item r i (punct kind.Comma ∷ ts) ≡ after_item_comma r i ts
 unfolding after_item_comma
@@ -110,13 +110,13 @@ module _ (x : Symbol) (rest other : List Symbol) where
   sign_local m n = first m n eat_sign (whole_end []) step
     where
       operator : (op : ℕ) (t : Text) (plus minus : Bool) → (op == T_ADD) ≡ plus → (op == T_SUB) ≡ minus → First eat_sign m n (word (kind.Operator op) t)
-      operator op t true minus e f = done m n eat_sign (word (kind.Operator op) t) (signed false t) (λ ts. cond-true (op == T_ADD) _ _ e)
-      operator op t false true e f = done m n eat_sign (word (kind.Operator op) t) (signed true t) (λ ts. cond-false (op == T_ADD) _ _ e ∙ cond-true (op == T_SUB) _ _ f)
-      operator op t false false e f = none m n eat_sign (word (kind.Operator op) t) unsigned (λ ts. cond-false (op == T_ADD) _ _ e ∙ cond-false (op == T_SUB) _ _ f)
+      operator op t true minus e f = done m n eat_sign (word (kind.Operator op) t) (Some (false, t)) (λ ts. cond-true (op == T_ADD) _ _ e)
+      operator op t false true e f = done m n eat_sign (word (kind.Operator op) t) (Some (true, t)) (λ ts. cond-false (op == T_ADD) _ _ e ∙ cond-true (op == T_SUB) _ _ f)
+      operator op t false false e f = none m n eat_sign (word (kind.Operator op) t) None (λ ts. cond-false (op == T_ADD) _ _ e ∙ cond-false (op == T_SUB) _ _ f)
 
       step : (t : Symbol) → First eat_sign m n t
       step (word (kind.Operator op) t) = operator op t (op == T_ADD) (op == T_SUB) refl refl
-      step t = none m n eat_sign t unsigned (λ ts. refl)
+      step t = none m n eat_sign t None (λ ts. refl)
 
   -- ---- labels
 
@@ -157,9 +157,9 @@ module _ (x : Symbol) (rest other : List Symbol) where
   grouping_local m n = first m n parse_grouping (whole_end []) step
     where
       step : (t : Symbol) → First parse_grouping m n t
-      step (word kind.By t) = on m n parse_grouping (word kind.By t) (λ ts. parse_labels ts then λ l. Ok (after (grouping true t l.0), l.1)) (made m n parse_labels (λ l. after (grouping true t l)) (labels_local m n)) (λ ts. refl)
-      step (word kind.Without t) = on m n parse_grouping (word kind.Without t) (λ ts. parse_labels ts then λ l. Ok (after (grouping false t l.0), l.1)) (made m n parse_labels (λ l. after (grouping false t l)) (labels_local m n)) (λ ts. refl)
-      step t = none m n parse_grouping t no_clause (λ ts. refl)
+      step (word kind.By t) = on m n parse_grouping (word kind.By t) (λ ts. parse_labels ts then λ l. Ok (Some (false, (true, t, l.0)), l.1)) (made m n parse_labels (λ l. Some (false, (true, t, l))) (labels_local m n)) (λ ts. refl)
+      step (word kind.Without t) = on m n parse_grouping (word kind.Without t) (λ ts. parse_labels ts then λ l. Ok (Some (false, (false, t, l.0)), l.1)) (made m n parse_labels (λ l. Some (false, (false, t, l))) (labels_local m n)) (λ ts. refl)
+      step t = none m n parse_grouping t None (λ ts. refl)
 
   -- ---- modifiers
 
@@ -167,8 +167,8 @@ module _ (x : Symbol) (rest other : List Symbol) where
   group_labels_local m n b t = first m n (parse_group_labels b t) (whole_end []) step
     where
       step : (u : Symbol) → First (parse_group_labels b t) m n u
-      step (punct kind.LeftParen) = on m n (parse_group_labels b t) (punct kind.LeftParen) (λ ts. parse_label_list ts then λ l. Ok (listed b t l.0, l.1)) (made m n parse_label_list (listed b t) (label_list_local m n)) (λ ts. refl)
-      step u = none m n (parse_group_labels b t) u (bare b t) (λ ts. refl)
+      step (punct kind.LeftParen) = on m n (parse_group_labels b t) (punct kind.LeftParen) (λ ts. parse_label_list ts then λ l. Ok (Some (b, t, Some l.0), l.1)) (made m n parse_label_list (λ l. Some (b, t, Some l)) (label_list_local m n)) (λ ts. refl)
+      step u = none m n (parse_group_labels b t) u (Some (b, t, None)) (λ ts. refl)
 
   group_local : (m n : ℕ) → Local x rest other m n parse_group parse_group
   group_local m n = first m n parse_group (whole_end []) step
@@ -176,10 +176,10 @@ module _ (x : Symbol) (rest other : List Symbol) where
       step : (t : Symbol) → First parse_group m n t
       step (word kind.GroupLeft t) = on m n parse_group (word kind.GroupLeft t) (parse_group_labels true t) (group_labels_local m n true t) (λ ts. refl)
       step (word kind.GroupRight t) = on m n parse_group (word kind.GroupRight t) (parse_group_labels false t) (group_labels_local m n false t) (λ ts. refl)
-      step t = none m n parse_group t no_group (λ ts. refl)
+      step t = none m n parse_group t None (λ ts. refl)
 
   matching_after_local : (m n : ℕ) (b : Bool) (t : Text) → Local x rest other m n (parse_matching_after b t) (parse_matching_after b t)
-  matching_after_local m n b t = seq m n parse_labels (λ l us. parse_group us then λ g. Ok (matching b t l g.0, g.1)) (labels_local m n) (λ l. made m n parse_group (matching b t l) (group_local m n))
+  matching_after_local m n b t = seq m n parse_labels (λ l us. parse_group us then λ g. Ok (Some (b, t, l, g.0), g.1)) (labels_local m n) (λ l. made m n parse_group (λ g. Some (b, t, l, g)) (group_local m n))
 
   matching_local : (m n : ℕ) → Local x rest other m n parse_matching parse_matching
   matching_local m n = first m n parse_matching (whole_end []) step
@@ -187,13 +187,13 @@ module _ (x : Symbol) (rest other : List Symbol) where
       step : (t : Symbol) → First parse_matching m n t
       step (word kind.On t) = on m n parse_matching (word kind.On t) (parse_matching_after true t) (matching_after_local m n true t) (λ ts. refl)
       step (word kind.Ignoring t) = on m n parse_matching (word kind.Ignoring t) (parse_matching_after false t) (matching_after_local m n false t) (λ ts. refl)
-      step t = none m n parse_matching t no_matching (λ ts. refl)
+      step t = none m n parse_matching t None (λ ts. refl)
 
   value_end_local : (m n : ℕ) (s : Signed) (v : Text) → Local x rest other m n (parse_fill_value_end s v) (parse_fill_value_end s v)
   value_end_local m n s v = first m n (parse_fill_value_end s v) (whole_end []) step
     where
       step : (t : Symbol) → First (parse_fill_value_end s v) m n t
-      step (punct kind.RightParen) = done m n (parse_fill_value_end s v) (punct kind.RightParen) (record { sign = s; number = v }) (λ ts. refl)
+      step (punct kind.RightParen) = done m n (parse_fill_value_end s v) (punct kind.RightParen) ((s, v)) (λ ts. refl)
       step t = bad m n (parse_fill_value_end s v) t (λ ts. refl)
 
   fill_value_local : (m n : ℕ) → Local x rest other m n parse_fill_value parse_fill_value
@@ -238,7 +238,7 @@ module _ (x : Symbol) (rest other : List Symbol) where
   pub modifier_local : (m n : ℕ) → Local x rest other m n parse_modifier parse_modifier
   modifier_local m n =
       seq m n parse_flag (λ b us. parse_matching us then with_matching b) (flag_local m n)
-      (λ b. seq m n parse_matching (λ p us. parse_fills us then with_fills b p) (matching_local m n) (λ p. made m n parse_fills (λ f. record { flag = b; matching = p; fills = f }) (fills_local m n)))
+      (λ b. seq m n parse_matching (λ p us. parse_fills us then with_fills b p) (matching_local m n) (λ p. made m n parse_fills (λ f. (b, p, f)) (fills_local m n)))
 
   -- ---- matchers
 
@@ -281,11 +281,11 @@ module _ (x : Symbol) (rest other : List Symbol) where
 
     item_comma_local : Local x rest other m n (after_item_comma r i) (after_item_comma s i)
     unfolding after_item_comma
-    item_comma_local = local_by_first x rest other m n m n (after_item_comma r i) (after_item_comma s i) (omega arith) (omega arith) ((items_on (next_item i comma)).ends [] (omega arith)) step
+    item_comma_local = local_by_first x rest other m n m n (after_item_comma r i) (after_item_comma s i) (omega arith) (omega arith) ((items_on (next_item i None)).ends [] (omega arith)) step
       where
         step : (t : Symbol) → Step x rest other m n m n (after_item_comma r i) (after_item_comma s i) t
-        step (punct kind.RightBrace) = takes (λ ts. Ok (last_item_comma i, ts)) (λ ts. Ok (last_item_comma i, ts)) (local_ok x rest other (last_item_comma i) m n) (λ ts. refl) (λ ts. refl)
-        step t = stays (λ ts. r ts then λ y. Ok (next_item i comma y.0, y.1)) (λ ts. s ts then λ y. Ok (next_item i comma y.0, y.1)) (items_on (next_item i comma)) (λ ts. refl) (λ ts. refl)
+        step (punct kind.RightBrace) = takes (λ ts. Ok (last_item i true, ts)) (λ ts. Ok (last_item i true, ts)) (local_ok x rest other (last_item i true) m n) (λ ts. refl) (λ ts. refl)
+        step t = stays (λ ts. r ts then λ y. Ok (next_item i None y.0, y.1)) (λ ts. s ts then λ y. Ok (next_item i None y.0, y.1)) (items_on (next_item i None)) (λ ts. refl) (λ ts. refl)
 
     abbrev AfterItem : Symbol → Type 0
     AfterItem t = Step x rest other (suc m) (suc n) m n (parse_after_item r i) (parse_after_item s i) t
@@ -297,11 +297,11 @@ module _ (x : Symbol) (rest other : List Symbol) where
         wrong t e e' = stays (λ ts. Err (misfit ts)) (λ ts. Err (misfit ts)) (local_misfit x rest other (suc m) (suc n)) e e'
 
         operator : (op : ℕ) (t : Text) (b : Bool) → (op == T_LOR) ≡ b → AfterItem (word (kind.Operator op) t)
-        operator op t true e = takes (λ ts. r ts then λ y. Ok (next_item i (or t) y.0, y.1)) (λ ts. s ts then λ y. Ok (next_item i (or t) y.0, y.1)) (items_on (next_item i (or t))) (λ ts. cond-true (op == T_LOR) _ _ e) (λ ts. cond-true (op == T_LOR) _ _ e)
+        operator op t true e = takes (λ ts. r ts then λ y. Ok (next_item i (Some t) y.0, y.1)) (λ ts. s ts then λ y. Ok (next_item i (Some t) y.0, y.1)) (items_on (next_item i (Some t))) (λ ts. cond-true (op == T_LOR) _ _ e) (λ ts. cond-true (op == T_LOR) _ _ e)
         operator op t false e = wrong (word (kind.Operator op) t) (λ ts. cond-false (op == T_LOR) _ _ e) (λ ts. cond-false (op == T_LOR) _ _ e)
 
         step : (t : Symbol) → AfterItem t
-        step (punct kind.RightBrace) = takes (λ ts. Ok (last_item i, ts)) (λ ts. Ok (last_item i, ts)) (local_ok x rest other (last_item i) m n) (λ ts. refl) (λ ts. refl)
+        step (punct kind.RightBrace) = takes (λ ts. Ok (last_item i false, ts)) (λ ts. Ok (last_item i false, ts)) (local_ok x rest other (last_item i false) m n) (λ ts. refl) (λ ts. refl)
         step (punct kind.Comma) = takes (after_item_comma r i) (after_item_comma s i) item_comma_local (item_comma r i) (item_comma s i)
         step (word (kind.Operator op) t) = operator op t (op == T_LOR) refl
         step t = wrong t (λ ts. refl) (λ ts. refl)
@@ -313,16 +313,16 @@ module _ (x : Symbol) (rest other : List Symbol) where
       (λ k j ih d. local_then x rest other (suc k) (suc j) parse_item parse_item (parse_after_item (parse_items k)) (parse_after_item (parse_items j)) (item_local (suc k) (suc j)) (after_item_local k j (parse_items k) (parse_items j) (ih tt))) m n tt
 
   abbrev some_items : ℕ → List Symbol → Read Braces
-  some_items k ts = parse_items k ts then λ y. Ok (items y.0, y.1)
+  some_items k ts = parse_items k ts then λ y. Ok (Some y.0, y.1)
 
   some_items_local : (k j : ℕ) → Local x rest other k j (some_items k) (some_items j)
-  some_items_local k j = local_then x rest other k j (parse_items k) (parse_items j) (λ y us. Ok (items y, us)) (λ y us. Ok (items y, us)) (items_local k j) (λ y. local_ok x rest other (items y) k j)
+  some_items_local k j = local_then x rest other k j (parse_items k) (parse_items j) (λ y us. Ok (Some y, us)) (λ y us. Ok (Some y, us)) (items_local k j) (λ y. local_ok x rest other (Some y) k j)
 
   pub braces_local : (m n : ℕ) → Local x rest other m n parse_braces parse_braces
   braces_local m n = first m n parse_braces (whole_end []) step
     where
       step : (t : Symbol) → First parse_braces m n t
-      step (punct kind.RightBrace) = done m n parse_braces (punct kind.RightBrace) no_item (λ ts. refl)
+      step (punct kind.RightBrace) = done m n parse_braces (punct kind.RightBrace) None (λ ts. refl)
       step t = at m n parse_braces t (λ ts. some_items (length ts) ts) (local_by_length x rest other m n some_items some_items_local) (λ ts. refl)
 
   pub optional_braces_local : (m n : ℕ) → Local x rest other m n parse_optional_braces parse_optional_braces

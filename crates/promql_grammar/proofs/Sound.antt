@@ -7,9 +7,9 @@ use Rattle.promql_grammar.specs.declared.token_kinds.TokenKind.{TokenKind}
 use Rattle.promql_grammar.specs.declared.token_kinds.TokenKind.TheVariants as kind
 use Rattle.promql_grammar.specs.Results.{◌then◌}
 use Rattle.promql_grammar.specs.Symbols.{Symbol, punct, word, may_be_name, may_be_called, is_plus_or_minus}
-use Rattle.promql_grammar.specs.GrammarParts.{Grouping, grouping, Clause, no_clause, before, after, bare, Matching, matching, Fills, no_fill, Modifier, Braces, Postfix, range, subquery, at_number, at_bound, offset, mode, yield_labels, yield_grouping, yield_before, yield_after, yield_modifier, yield_braces, yield_any_braces, yield_postfix, IsLabels, IsClause}
-use Rattle.promql_grammar.specs.PartTokens.{IsGrouping}
-use Rattle.promql_grammar.specs.Grammar.{Derivation, number, duration, string, selector, nameless, paren, call, aggregate, postfixed, unary, binary, Arguments, none, more, yield, yield_arguments, yield_rest, precedence, openness, height, greatest_height, added_height, IsWellFormed, AreWellFormed, IsBase, OpensNoParen, FitsLeft, FitsMatching}
+use Rattle.promql_grammar.specs.GrammarParts.{Grouping, Clause, Matching, Fills, no_fill, Modifier, Braces, Postfix, range, subquery, at_number, at_bound, offset, mode, yield_labels, yield_grouping, yield_before, yield_after, yield_modifier, yield_braces, yield_postfix, IsLabels}
+use Rattle.promql_grammar.specs.PartTokens.{IsGrouping, yield_any_braces, IsClause, yield_rest}
+use Rattle.promql_grammar.specs.Grammar.{Derivation, number, duration, string, selector, nameless, paren, call, aggregate, postfixed, unary, binary, Arguments, none, more, yield, yield_arguments, precedence, openness, height, greatest_height, added_height, IsWellFormed, AreWellFormed, IsBase, OpensNoParen, FitsLeft, FitsMatching}
 use Rattle.promql_grammar.specs.Parsing.{misfit, too_high, Read, Reader, right_precedence, parse_labels, parse_grouping, parse_modifier, parse_optional_braces, parse_braces, parse_postfix, parse_more_postfixes, parse_postfixes, parse_paren_end, parse_more_arguments, parse_arguments, parse_selector, parse_call, parse_grouped_aggregate, parse_aggregate, parse_unary, parse_operators, parse_expression}
 use Rattle.promql_grammar.proofs.Complete.{tall}
 use Rattle.promql_grammar.proofs.Precedences.{Root, Stops, After, after_right, after_sign, after_base, right_root, sign_root, root_base}
@@ -33,16 +33,16 @@ mutual
   height_yield (nameless b) = braces_tokens b
     where
       braces_tokens : (b : Braces) → 1 ≤ length (yield_braces b)
-      braces_tokens Rattle.promql_grammar.specs.GrammarParts.no_item = omega arith
+      braces_tokens None = omega arith
       braces_tokens b = omega arith
   height_yield (paren d) = omega (arith, height_yield d, length-append (yield d) (punct kind.RightParen ∷ []))
   height_yield (call k t ds) = omega (arith, height_arguments ds)
-  height_yield (aggregate op t c ds) = omega (arith, height_arguments ds, length-append (yield_before c) (punct kind.LeftParen ∷ (yield_arguments ds ++ yield_after c)), length-append (yield_arguments ds) (yield_after c))
+  height_yield (aggregate op t c ds) = omega (arith, height_arguments ds, length-append (yield_before c) (punct kind.LeftParen ∷ (yield_arguments [] ds ++ yield_after c)), length-append (yield_arguments [] ds) (yield_after c))
   height_yield (postfixed d p) = omega (arith, height_yield d, added_tokens p, length-append (yield d) (yield_postfix p))
   height_yield (unary op t d) = omega (arith, height_yield d)
   height_yield (binary op t m a b) = omega (arith, height_yield a, height_yield b, length-append (yield a) (word (kind.Operator op) t ∷ (yield_modifier m ++ yield b)), length-append (yield_modifier m) (yield b))
 
-  height_arguments : (ds : Arguments) → greatest_height ds ≤ length (yield_arguments ds)
+  height_arguments : (ds : Arguments) → greatest_height ds ≤ length (yield_arguments [] ds)
   height_arguments none = omega arith
   height_arguments (more d ds) = omega (arith, height_yield d, height_rest ds, length-append (yield d) (yield_rest ds))
 
@@ -102,7 +102,7 @@ open_less (punct kind.LeftParen ∷ ts) us l h = h
 open_less (t ∷ ts) us l h = tt
 
 fits_less : (m : Matching) (f : Fills) (ts us : List Symbol) → 1 ≤ length ts → FitsMatching m f (ts ++ us) → FitsMatching m f ts
-fits_less (matching on t ls (bare left t')) no_fill ts us l h = open_less ts us l h
+fits_less (Some (on, t, ls, (Some (left, t', None)))) no_fill ts us l h = open_less ts us l h
 fits_less m f ts us l h = tt
 
 -- after a part without expressions
@@ -162,18 +162,18 @@ module _ (n : ℕ) where
     rest_sound (suc k) (punct kind.Comma ∷ ts) = rest_comma k ts (r 0 ts) (rest_sound k) (sound.by 0 ts)
     rest_sound (suc k) ts = tt
 
-    arguments_first : (ts : List Symbol) (o : Read Derivation) → Good n 0 ts o → ReadsArguments yield_arguments n ts (o then λ x. parse_more_arguments r (length ts) x.1 then λ y. Ok (more x.0 y.0, y.1))
-    arguments_first ts (Ok x) g = more_sound yield_arguments [] x.0 x.1 ts (parse_more_arguments r (length ts) x.1) (λ ds. refl) g.formed g.low g.spells (rest_sound (length ts) x.1)
+    arguments_first : (ts : List Symbol) (o : Read Derivation) → Good n 0 ts o → ReadsArguments (yield_arguments []) n ts (o then λ x. parse_more_arguments r (length ts) x.1 then λ y. Ok (more x.0 y.0, y.1))
+    arguments_first ts (Ok x) g = more_sound (yield_arguments []) [] x.0 x.1 ts (parse_more_arguments r (length ts) x.1) (λ ds. refl) g.formed g.low g.spells (rest_sound (length ts) x.1)
     arguments_first ts (Err too_high) g = g
     arguments_first ts (Err (misfit bad)) g = tt
 
-    arguments_sound : (ts : List Symbol) → ReadsArguments yield_arguments n ts (parse_arguments r ts)
+    arguments_sound : (ts : List Symbol) → ReadsArguments (yield_arguments []) n ts (parse_arguments r ts)
     arguments_sound (punct kind.RightParen ∷ ts) = record { formed = tt; low = omega arith; spells = refl }
     arguments_sound ts = arguments_first ts (r 0 ts) (sound.by 0 ts)
 
     -- after arguments, before which there is at least one token
-    first_arguments : (front ts : List Symbol) (o : Read Arguments) (f : Arguments × List Symbol → Read Derivation) → 1 ≤ length front → ReadsArguments yield_arguments n ts o
-        → ((ds : Arguments) (us : List Symbol) → AreWellFormed ds → greatest_height ds ≤ n → ts ≡ yield_arguments ds ++ us → Firsts (suc n) (front ++ ts) (f (ds, us))) → Firsts (suc n) (front ++ ts) (o then f)
+    first_arguments : (front ts : List Symbol) (o : Read Arguments) (f : Arguments × List Symbol → Read Derivation) → 1 ≤ length front → ReadsArguments (yield_arguments []) n ts o
+        → ((ds : Arguments) (us : List Symbol) → AreWellFormed ds → greatest_height ds ≤ n → ts ≡ yield_arguments [] ds ++ us → Firsts (suc n) (front ++ ts) (f (ds, us))) → Firsts (suc n) (front ++ ts) (o then f)
     first_arguments front ts (Ok y) f l g k = k y.0 y.1 g.formed g.low g.spells
     first_arguments front ts (Err too_high) f l g k = omega (arith, length-append front ts)
     first_arguments front ts (Err (misfit bad)) f l g k = tt
@@ -184,24 +184,24 @@ module _ (n : ℕ) where
         (λ ds us i l e. postfixes_sound k (call w t ds) us _ (h, i) tt (omega arith) (ap (λ l. word w t ∷ (punct kind.LeftParen ∷ l)) e))
     called_sound k w t ts h = named_sound k w t ts
 
-    is_before : (g : Grouping) → IsGrouping g → IsClause (before g)
-    is_before (grouping by t ls) h = h
+    is_before : (g : Grouping) → IsGrouping g → IsClause (Some (true, g))
+    is_before (by, t, ls) h = h
 
     -- arguments after a grouping
     grouped_sound : (k op : ℕ) (t : Text) (g : Grouping) (ts us : List Symbol) → IsGrouping g → ts ≡ yield_grouping g ++ us → Firsts (suc n) (word (kind.Aggregator op) t ∷ ts) (parse_grouped_aggregate r k (suc n) op t g us)
     grouped_sound k op t g ts (punct kind.LeftParen ∷ us) h e =
         let front = word (kind.Aggregator op) t ∷ (yield_grouping g ++ punct kind.LeftParen ∷ []) in
         let same : front ++ us ≡ word (kind.Aggregator op) t ∷ ts = ap (λ l. word (kind.Aggregator op) t ∷ l) (append_assoc (yield_grouping g) (punct kind.LeftParen ∷ []) us ∙ sym e) in
-        subst (λ all. Firsts (suc n) all (parse_arguments r us then λ y. parse_postfixes k (suc n) (aggregate op t (before g) y.0) y.1)) same
-        (first_arguments front us (parse_arguments r us) (λ y. parse_postfixes k (suc n) (aggregate op t (before g) y.0) y.1) (omega arith) (arguments_sound us)
-        (λ ds vs i l f. postfixes_sound k (aggregate op t (before g) ds) vs (front ++ us) (is_before g h, i) tt (omega arith)
-        (same ∙ ap (λ l. word (kind.Aggregator op) t ∷ l) (e ∙ ap (λ l. yield_grouping g ++ punct kind.LeftParen ∷ l) (f ∙ ap (λ l. l ++ vs) (sym (append-nil (yield_arguments ds)))) ∙ sym (append_assoc (yield_grouping g) (punct kind.LeftParen ∷ (yield_arguments ds ++ [])) vs)))))
+        subst (λ all. Firsts (suc n) all (parse_arguments r us then λ y. parse_postfixes k (suc n) (aggregate op t (Some (true, g)) y.0) y.1)) same
+        (first_arguments front us (parse_arguments r us) (λ y. parse_postfixes k (suc n) (aggregate op t (Some (true, g)) y.0) y.1) (omega arith) (arguments_sound us)
+        (λ ds vs i l f. postfixes_sound k (aggregate op t (Some (true, g)) ds) vs (front ++ us) (is_before g h, i) tt (omega arith)
+        (same ∙ ap (λ l. word (kind.Aggregator op) t ∷ l) (e ∙ ap (λ l. yield_grouping g ++ punct kind.LeftParen ∷ l) (f ∙ ap (λ l. l ++ vs) (sym (append-nil (yield_arguments [] ds)))) ∙ sym (append_assoc (yield_grouping g) (punct kind.LeftParen ∷ (yield_arguments [] ds ++ [])) vs)))))
     grouped_sound k op t g ts us h e = tt
 
     is_clause : (c : Clause) → IsAfter c → IsClause c
-    is_clause no_clause h = tt
-    is_clause (before (grouping by t ls)) h = h.0
-    is_clause (after (grouping by t ls)) h = h.0
+    is_clause None h = tt
+    is_clause (Some (true, (by, t, ls))) h = h.0
+    is_clause (Some (false, (by, t, ls))) h = h.0
 
     aggregated_sound : (k op : ℕ) (t : Text) (ts : List Symbol) → Firsts (suc n) (word (kind.Aggregator op) t ∷ ts) (parse_aggregate r k (suc n) op t ts)
     aggregated_sound k op t (punct kind.LeftParen ∷ ts) =
@@ -209,14 +209,14 @@ module _ (n : ℕ) where
         first_arguments front ts (parse_arguments r ts) (λ y. parse_grouping y.1 then λ c. parse_postfixes k (suc n) (aggregate op t c.0 y.0) c.1) (omega arith) (arguments_sound ts)
         (λ ds us i l e. first_then (suc n) yield_after IsAfter us (front ++ ts) (parse_grouping us) (λ c. parse_postfixes k (suc n) (aggregate op t c.0 ds) c.1) (clause_taken us)
         (λ c vs f j. postfixes_sound k (aggregate op t c ds) vs (front ++ ts) (is_clause c j, i) tt (omega arith)
-        (ap (λ x. word (kind.Aggregator op) t ∷ (punct kind.LeftParen ∷ x)) (e ∙ ap (λ x. yield_arguments ds ++ x) f ∙ sym (append_assoc (yield_arguments ds) (yield_after c) vs))
-        ∙ ap (λ x. word (kind.Aggregator op) t ∷ ((x ++ punct kind.LeftParen ∷ (yield_arguments ds ++ yield_after c)) ++ vs)) (sym j.1))))
+        (ap (λ x. word (kind.Aggregator op) t ∷ (punct kind.LeftParen ∷ x)) (e ∙ ap (λ x. yield_arguments [] ds ++ x) f ∙ sym (append_assoc (yield_arguments [] ds) (yield_after c) vs))
+        ∙ ap (λ x. word (kind.Aggregator op) t ∷ ((x ++ punct kind.LeftParen ∷ (yield_arguments [] ds ++ yield_after c)) ++ vs)) (sym j.1))))
     aggregated_sound k op t (word kind.By u ∷ ts) =
-        first_then (suc n) yield_labels IsLabels ts (word (kind.Aggregator op) t ∷ (word kind.By u ∷ ts)) (parse_labels ts) (λ l. parse_grouped_aggregate r k (suc n) op t (grouping true u l.0) l.1) (labels_taken ts)
-        (λ ls us e h. grouped_sound k op t (grouping true u ls) (word kind.By u ∷ ts) us h (ap (λ l. word kind.By u ∷ l) e))
+        first_then (suc n) yield_labels IsLabels ts (word (kind.Aggregator op) t ∷ (word kind.By u ∷ ts)) (parse_labels ts) (λ l. parse_grouped_aggregate r k (suc n) op t (true, u, l.0) l.1) (labels_taken ts)
+        (λ ls us e h. grouped_sound k op t (true, u, ls) (word kind.By u ∷ ts) us h (ap (λ l. word kind.By u ∷ l) e))
     aggregated_sound k op t (word kind.Without u ∷ ts) =
-        first_then (suc n) yield_labels IsLabels ts (word (kind.Aggregator op) t ∷ (word kind.Without u ∷ ts)) (parse_labels ts) (λ l. parse_grouped_aggregate r k (suc n) op t (grouping false u l.0) l.1) (labels_taken ts)
-        (λ ls us e h. grouped_sound k op t (grouping false u ls) (word kind.Without u ∷ ts) us h (ap (λ l. word kind.Without u ∷ l) e))
+        first_then (suc n) yield_labels IsLabels ts (word (kind.Aggregator op) t ∷ (word kind.Without u ∷ ts)) (parse_labels ts) (λ l. parse_grouped_aggregate r k (suc n) op t (false, u, l.0) l.1) (labels_taken ts)
+        (λ ls us e h. grouped_sound k op t (false, u, ls) (word kind.Without u ∷ ts) us h (ap (λ l. word kind.Without u ∷ l) e))
     aggregated_sound k op t ts = named_sound k (kind.Aggregator op) t ts
 
     paren_sound : (k : ℕ) (ts : List Symbol) (o : Read Derivation) → Good n 0 ts o → Firsts (suc n) (punct kind.LeftParen ∷ ts) (o then λ x. parse_paren_end k (suc n) x.0 x.1)
@@ -262,7 +262,7 @@ module _ (n : ℕ) where
     climb_on m k op t w d ts us all h l le f e q fits len ih (Ok x) g =
         let low = g.low in
         let short = shorter us x.0 x.1 g.spells in
-        let fits' : FitsMatching w.matching w.fills (yield x.0) = fits_less w.matching w.fills (yield x.0) x.1 (omega (arith, height_yield x.0, tall x.0)) (subst (FitsMatching w.matching w.fills) g.spells fits.1) in
+        let fits' : FitsMatching w.1 w.2 (yield x.0) = fits_less w.1 w.2 (yield x.0) x.1 (omega (arith, height_yield x.0, tall x.0)) (subst (FitsMatching w.1 w.2) g.spells fits.1) in
         ih (binary op t w d x.0) x.1 all (h, g.formed, fits.0, f, right_root op x.0 g.root, fits') (omega arith) le (after_right op (openness x.0) x.1 g.after g.stops)
         (e ∙ ap (λ l. yield d ++ word (kind.Operator op) t ∷ l) (q ∙ ap (λ l. yield_modifier w ++ l) g.spells ∙ sym (append_assoc (yield_modifier w) (yield x.0) x.1)) ∙ sym (append_assoc (yield d) (word (kind.Operator op) t ∷ (yield_modifier w ++ yield x.0)) x.1))
         (omega (arith, ap length q, length-append (yield_modifier w) us))

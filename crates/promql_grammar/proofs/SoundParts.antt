@@ -7,8 +7,8 @@ use Rattle.promql_token.specs.declared.ids.TheConstants.{T_NEQ, T_LOR, T_ADD, T_
 use Rattle.promql_grammar.specs.declared.token_kinds.TokenKind.TheVariants as kind
 use Rattle.promql_grammar.specs.Results.{◌then◌}
 use Rattle.promql_grammar.specs.Symbols.{Symbol, punct, word, may_be_label}
-use Rattle.promql_grammar.specs.GrammarParts.{Time, Signed, unsigned, signed, Labels, last, next, grouping, Clause, no_clause, before, after, Group, bare, listed, Matching, no_matching, matching, FillValue, Fills, no_fill, both, two, Modifier, MatchOperator, not_equal, Item, matcher, comma, or, Items, next_item, items, Postfix, at_number, offset, yield_time, yield_signed, yield_names, yield_labels, yield_before, yield_after, yield_group, yield_matching, yield_value, yield_fills, yield_modifier, yield_match_operator, yield_item, yield_items, yield_braces, yield_any_braces, yield_postfix, IsLabels, IsGroup, IsMatching, name_kind}
-use Rattle.promql_grammar.specs.PartTokens.{IsGrouping, yield_flag}
+use Rattle.promql_grammar.specs.GrammarParts.{Time, Signed, Labels, last, next, Clause, Group, Matching, FillValue, Fills, no_fill, both, two, Modifier, MatchOperator, not_equal, Item, matcher, Items, next_item, Postfix, at_number, offset, yield_time, yield_signed, yield_names, yield_labels, yield_before, yield_after, yield_group, yield_matching, yield_value, yield_fills, yield_modifier, yield_match_operator, yield_item, yield_items, yield_braces, yield_postfix, IsLabels, IsMatching, name_kind}
+use Rattle.promql_grammar.specs.PartTokens.{IsGrouping, yield_flag, yield_any_braces, IsGroup}
 use Rattle.promql_grammar.specs.Grammar.{OpensNoParen, FitsMatching}
 use Rattle.promql_grammar.specs.Parsing.{misfit, too_high, Read, parse_time, eat_sign, parse_number, parse_string, parse_fill_value_end, parse_fill_value, parse_label_list, parse_labels, parse_grouping, parse_group_labels, parse_group, parse_matching_after, parse_matching, parse_fills, parse_fill_right, parse_fill_left, parse_flag, with_fills, with_matching, parse_modifier, parse_match_operator, parse_matcher_value, parse_after_name, parse_after_string, parse_item, parse_after_item, parse_items, parse_braces, parse_optional_braces, parse_step_end, parse_step, parse_range_end, parse_at_bound, parse_at_modifier, parse_offset_postfix, parse_postfix}
 
@@ -46,12 +46,12 @@ time_taken (word kind.Duration t ∷ ts) = (refl, tt)
 time_taken ts = tt
 
 minus_if : (op : ℕ) (t : Text) (ts : List Symbol) (b : Bool) → (op == T_SUB) ≡ b
-    → Took yield_signed Any (word (kind.Operator op) t ∷ ts) (if b then Ok (signed true t, ts) else Ok (unsigned, word (kind.Operator op) t ∷ ts))
+    → Took yield_signed Any (word (kind.Operator op) t ∷ ts) (if b then Ok (Some (true, t), ts) else Ok (None, word (kind.Operator op) t ∷ ts))
 minus_if op t ts true e = (ap (λ o. word (kind.Operator o) t ∷ ts) (eqb-true op T_SUB e), tt)
 minus_if op t ts false e = (refl, tt)
 
 signed_if : (op : ℕ) (t : Text) (ts : List Symbol) (b : Bool) → (op == T_ADD) ≡ b
-    → Took yield_signed Any (word (kind.Operator op) t ∷ ts) (if b then Ok (signed false t, ts) else if op == T_SUB then Ok (signed true t, ts) else Ok (unsigned, word (kind.Operator op) t ∷ ts))
+    → Took yield_signed Any (word (kind.Operator op) t ∷ ts) (if b then Ok (Some (false, t), ts) else if op == T_SUB then Ok (Some (true, t), ts) else Ok (None, word (kind.Operator op) t ∷ ts))
 signed_if op t ts true e = (ap (λ o. word (kind.Operator o) t ∷ ts) (eqb-true op T_ADD e), tt)
 signed_if op t ts false e = minus_if op t ts (op == T_SUB) refl
 
@@ -112,22 +112,22 @@ abbrev pub IsAfter : Clause → Type 0
 IsAfter c = IsClause' c × (yield_before c ≡ [])
   where
     IsClause' : Clause → Type 0
-    IsClause' no_clause = Unit {0}
-    IsClause' (before g) = IsGrouping g
-    IsClause' (after g) = IsGrouping g
+    IsClause' None = Unit {0}
+    IsClause' (Some (true, g)) = IsGrouping g
+    IsClause' (Some (false, g)) = IsGrouping g
 
 pub clause_taken : (ts : List Symbol) → Took yield_after IsAfter ts (parse_grouping ts)
 clause_taken (word kind.By t ∷ ts) =
-    took_then yield_labels IsLabels ts yield_after IsAfter (word kind.By t ∷ ts) (parse_labels ts) (λ l. Ok (after (grouping true t l.0), l.1)) (labels_taken ts)
+    took_then yield_labels IsLabels ts yield_after IsAfter (word kind.By t ∷ ts) (parse_labels ts) (λ l. Ok (Some (false, (true, t, l.0)), l.1)) (labels_taken ts)
     (λ ls us e h. (ap (λ l. word kind.By t ∷ l) e, (h, refl)))
 clause_taken (word kind.Without t ∷ ts) =
-    took_then yield_labels IsLabels ts yield_after IsAfter (word kind.Without t ∷ ts) (parse_labels ts) (λ l. Ok (after (grouping false t l.0), l.1)) (labels_taken ts)
+    took_then yield_labels IsLabels ts yield_after IsAfter (word kind.Without t ∷ ts) (parse_labels ts) (λ l. Ok (Some (false, (false, t, l.0)), l.1)) (labels_taken ts)
     (λ ls us e h. (ap (λ l. word kind.Without t ∷ l) e, (h, refl)))
 clause_taken ts = (refl, (tt, refl))
 
 -- the labels of a group open directly after its word
 abbrev pub GroupEnds : Group → List Symbol → Type 0
-GroupEnds (bare k t) us = OpensNoParen us
+GroupEnds (Some (k, t, None)) us = OpensNoParen us
 GroupEnds g us = Unit {0}
 
 abbrev IsGroupBefore : Group → List Symbol → Type 0
@@ -136,7 +136,7 @@ IsGroupBefore g us = IsGroup g × GroupEnds g us
 list_taken : (left : Bool) (t : Text) (ts : List Symbol) → Takes yield_group IsGroupBefore (word (if left then kind.GroupLeft else kind.GroupRight) t ∷ ts) (parse_group_labels left t ts)
 list_taken left t (punct kind.LeftParen ∷ ts) =
     takes_then yield_labels (λ l us. IsLabels l) (punct kind.LeftParen ∷ ts) yield_group IsGroupBefore (word (if left then kind.GroupLeft else kind.GroupRight) t ∷ (punct kind.LeftParen ∷ ts)) (parse_label_list ts)
-    (λ l. Ok (listed left t l.0, l.1)) (labels_in_taken ts)
+    (λ l. Ok (Some (left, t, Some l.0), l.1)) (labels_in_taken ts)
     (λ ls us e i. (ap (λ l. word (if left then kind.GroupLeft else kind.GroupRight) t ∷ l) e, (i, tt)))
 list_taken left t ts = (refl, (tt, tt))
 
@@ -146,8 +146,8 @@ group_taken (word kind.GroupRight t ∷ ts) = list_taken false t ts
 group_taken ts = (refl, (tt, tt))
 
 abbrev MatchingEnds : Matching → List Symbol → Type 0
-MatchingEnds no_matching us = Unit {0}
-MatchingEnds (matching k t ls g) us = GroupEnds g us
+MatchingEnds None us = Unit {0}
+MatchingEnds (Some (k, t, ls, g)) us = GroupEnds g us
 
 abbrev IsMatchingBefore : Matching → List Symbol → Type 0
 IsMatchingBefore m us = IsMatching m × MatchingEnds m us
@@ -155,8 +155,8 @@ IsMatchingBefore m us = IsMatching m × MatchingEnds m us
 matching_after_taken : (on : Bool) (t : Text) (ts : List Symbol) → Takes yield_matching IsMatchingBefore (word (if on then kind.On else kind.Ignoring) t ∷ ts) (parse_matching_after on t ts)
 matching_after_taken on t ts =
     let first : Symbol = word (if on then kind.On else kind.Ignoring) t in
-    takes_then yield_labels (λ l us. IsLabels l) ts yield_matching IsMatchingBefore (first ∷ ts) (parse_labels ts) (λ l. parse_group l.1 then λ g. Ok (matching on t l.0 g.0, g.1)) (labels_taken ts)
-    (λ ls us e i. takes_then yield_group IsGroupBefore us yield_matching IsMatchingBefore (first ∷ ts) (parse_group us) (λ g. Ok (matching on t ls g.0, g.1)) (group_taken us)
+    takes_then yield_labels (λ l us. IsLabels l) ts yield_matching IsMatchingBefore (first ∷ ts) (parse_labels ts) (λ l. parse_group l.1 then λ g. Ok (Some (on, t, l.0, g.0), g.1)) (labels_taken ts)
+    (λ ls us e i. takes_then yield_group IsGroupBefore us yield_matching IsMatchingBefore (first ∷ ts) (parse_group us) (λ g. Ok (Some (on, t, ls, g.0), g.1)) (group_taken us)
     (λ g vs f j. (ap (λ l. first ∷ l) (e ∙ ap (λ l. yield_labels ls ++ l) f ∙ sym (append_assoc (yield_labels ls) (yield_group g) vs)), ((i, j.0), j.1))))
 
 matching_taken : (ts : List Symbol) → Takes yield_matching IsMatchingBefore ts (parse_matching ts)
@@ -187,11 +187,11 @@ flag_taken (word kind.Bool t ∷ ts) = (refl, tt)
 flag_taken ts = (refl, tt)
 
 ends_fit : (m : Matching) (f : Fills) (us vs : List Symbol) → MatchingEnds m us → us ≡ yield_fills f ++ vs → FitsMatching m f vs
-ends_fit (matching on t ls (bare left t')) no_fill us vs h e = subst OpensNoParen e h
+ends_fit (Some (on, t, ls, (Some (left, t', None)))) no_fill us vs h e = subst OpensNoParen e h
 ends_fit m f us vs h e = tt
 
 abbrev pub IsModifierBefore : Modifier → List Symbol → Type 0
-IsModifierBefore m us = IsMatching m.matching × FitsMatching m.matching m.fills us
+IsModifierBefore m us = IsMatching m.1 × FitsMatching m.1 m.2 us
 
 pub modifier_taken : (ts : List Symbol) → Takes yield_modifier IsModifierBefore ts (parse_modifier ts)
 modifier_taken ts =
@@ -237,11 +237,11 @@ after_item_taken : (r : List Symbol → Read Items) → ((ts : List Symbol) → 
 after_item_taken r ih i ts (punct kind.RightBrace ∷ us) e = (e ∙ sym (append_assoc (yield_item i) (punct kind.RightBrace ∷ []) us), tt)
 after_item_taken r ih i ts (punct kind.Comma ∷ (punct kind.RightBrace ∷ us)) e = (e ∙ sym (append_assoc (yield_item i) (punct kind.Comma ∷ (punct kind.RightBrace ∷ [])) us), tt)
 after_item_taken r ih i ts (punct kind.Comma ∷ us) e =
-    took_then yield_items Any us yield_items Any ts (r us) (λ y. Ok (next_item i comma y.0, y.1)) (ih us)
+    took_then yield_items Any us yield_items Any ts (r us) (λ y. Ok (next_item i None y.0, y.1)) (ih us)
     (λ is vs f j. (e ∙ ap (λ l. yield_item i ++ punct kind.Comma ∷ l) f ∙ sym (append_assoc (yield_item i) (punct kind.Comma ∷ yield_items is) vs), tt))
 after_item_taken r ih i ts (word (kind.Operator op) t ∷ us) e =
-    took_if yield_items Any ts (op == T_LOR) (r us then λ y. Ok (next_item i (or t) y.0, y.1)) _
-    (λ q. took_then yield_items Any us yield_items Any ts (r us) (λ y. Ok (next_item i (or t) y.0, y.1)) (ih us)
+    took_if yield_items Any ts (op == T_LOR) (r us then λ y. Ok (next_item i (Some t) y.0, y.1)) _
+    (λ q. took_then yield_items Any us yield_items Any ts (r us) (λ y. Ok (next_item i (Some t) y.0, y.1)) (ih us)
     (λ is vs f j. (e ∙ ap (λ o. yield_item i ++ word (kind.Operator o) t ∷ us) (eqb-true op T_LOR q) ∙ ap (λ l. yield_item i ++ word (kind.Operator T_LOR) t ∷ l) f ∙ sym (append_assoc (yield_item i) (word (kind.Operator T_LOR) t ∷ yield_items is) vs), tt)))
 after_item_taken r ih i ts us e = tt
 
@@ -254,7 +254,7 @@ items_taken (suc k) ts =
 pub braces_in_taken : (ts : List Symbol) → Took yield_braces Any (punct kind.LeftBrace ∷ ts) (parse_braces ts)
 braces_in_taken (punct kind.RightBrace ∷ ts) = (refl, tt)
 braces_in_taken ts =
-    took_then yield_items Any ts yield_braces Any (punct kind.LeftBrace ∷ ts) (parse_items (length ts) ts) (λ y. Ok (items y.0, y.1)) (items_taken (length ts) ts)
+    took_then yield_items Any ts yield_braces Any (punct kind.LeftBrace ∷ ts) (parse_items (length ts) ts) (λ y. Ok (Some y.0, y.1)) (items_taken (length ts) ts)
     (λ is us e h. (ap (λ l. punct kind.LeftBrace ∷ l) e, h))
 
 pub braces_taken : (ts : List Symbol) → Took yield_any_braces Any ts (parse_optional_braces ts)

@@ -1,13 +1,14 @@
 -- The grammar: derivations, their tokens, their heights, and which of them are well formed (docs/reference/grammar.md,
 -- "Grammar").
-use Rattle.std.specs.Prelude.{◌≡◌, ◌⊎◌, ℕ, ◌+◌, ◌≤◌, ◌<◌, Bool, true, ◌==◌, if◌then◌else◌, min, max, Option, List, [], ◌∷◌, ◌++◌}
+use Rattle.std.specs.Prelude.{◌≡◌, ◌⊎◌, ℕ, ◌+◌, ◌≤◌, ◌<◌, Bool, true, ◌==◌, if◌then◌else◌, min, max, Option, Some, None, IfSome, List, [], ◌∷◌, ◌++◌}
+use Rattle.std.specs.Option.{option_map_or}
 use Rattle.promql_text.specs.Texts.{Text}
 use Rattle.promql_token.specs.declared.ids.TheConstants.{T_LOR, T_LAND, T_LUNLESS, T_EQLC, T_NEQ, T_LTE, T_LSS, T_GTE, T_GTR, T_ADD, T_SUB, T_POW}
 use Rattle.promql_token.specs.Ids.{is_one_of}
 use Rattle.promql_grammar.specs.declared.token_kinds.TokenKind.{TokenKind}
 use Rattle.promql_grammar.specs.declared.token_kinds.TokenKind.TheVariants as kind
 use Rattle.promql_grammar.specs.Symbols.{Symbol, punct, word, is_plus_or_minus, may_be_name, may_be_called}
-use Rattle.promql_grammar.specs.GrammarParts.{Braces, yield_braces, yield_any_braces, Clause, yield_before, yield_after, IsClause, Modifier, yield_modifier, Matching, matching, IsMatching, bare, Fills, no_fill, Postfix, subquery, yield_postfix}
+use Rattle.promql_grammar.specs.GrammarParts.{IsLabels, Braces, yield_braces, Clause, yield_before, yield_after, Modifier, yield_modifier, Matching, IsMatching, Fills, no_fill, Postfix, subquery, yield_postfix}
 
 -- a derivation, with a case for each form of expression; it keeps the tokens of its form
 mutual
@@ -26,28 +27,24 @@ mutual
     none : Arguments
     more : Derivation → Arguments → Arguments
 
--- the tokens that a derivation spells; those of arguments end with the closing parenthesis
+-- the tokens that a derivation spells; those of arguments end with the closing parenthesis, and have a comma before each but the first
 abbrev mutual
   pub yield : Derivation → List Symbol
   yield (number text) = word kind.Number text ∷ []
   yield (duration text) = word kind.Duration text ∷ []
   yield (string text) = word kind.String text ∷ []
-  yield (selector k text b) = word k text ∷ yield_any_braces b
+  yield (selector k text b) = word k text ∷ option_map_or yield_braces b []
   yield (nameless b) = yield_braces b
   yield (paren d) = punct kind.LeftParen ∷ (yield d ++ punct kind.RightParen ∷ [])
-  yield (call k text ds) = word k text ∷ punct kind.LeftParen ∷ yield_arguments ds
-  yield (aggregate op text c ds) = word (kind.Aggregator op) text ∷ (yield_before c ++ punct kind.LeftParen ∷ (yield_arguments ds ++ yield_after c))
+  yield (call k text ds) = word k text ∷ punct kind.LeftParen ∷ yield_arguments [] ds
+  yield (aggregate op text c ds) = word (kind.Aggregator op) text ∷ (yield_before c ++ punct kind.LeftParen ∷ (yield_arguments [] ds ++ yield_after c))
   yield (postfixed d p) = yield d ++ yield_postfix p
   yield (unary op text d) = word (kind.Operator op) text ∷ yield d
   yield (binary op text m l r) = yield l ++ word (kind.Operator op) text ∷ (yield_modifier m ++ yield r)
 
-  pub yield_arguments : Arguments → List Symbol
-  yield_arguments none = punct kind.RightParen ∷ []
-  yield_arguments (more d ds) = yield d ++ yield_rest ds
-
-  pub yield_rest : Arguments → List Symbol
-  yield_rest none = punct kind.RightParen ∷ []
-  yield_rest (more d ds) = punct kind.Comma ∷ (yield d ++ yield_rest ds)
+  pub yield_arguments : (before : List Symbol) → Arguments → List Symbol
+  yield_arguments before none = punct kind.RightParen ∷ []
+  yield_arguments before (more d ds) = before ++ (yield d ++ yield_arguments (punct kind.Comma ∷ []) ds)
 
 -- how tightly an operator binds; `*`, `/`, `%` and `atan2` by 5
 abbrev pub precedence : ℕ → ℕ
@@ -91,7 +88,7 @@ OpensNoParen ts = Unit {0}
 
 -- a parenthesis directly after a grouping word opens its labels
 abbrev pub FitsMatching : Matching → Fills → List Symbol → Type 0
-FitsMatching (matching on text ls (bare left text')) no_fill ts = OpensNoParen ts
+FitsMatching (Some (on, text, ls, Some (left, text', None))) no_fill ts = OpensNoParen ts
 FitsMatching m f ts = Unit {0}
 
 -- the conditions hold everywhere in the derivation
@@ -100,10 +97,10 @@ abbrev mutual
   IsWellFormed (selector k text b) = may_be_name k ≡ true
   IsWellFormed (paren d) = IsWellFormed d
   IsWellFormed (call k text ds) = (may_be_called k ≡ true) × AreWellFormed ds
-  IsWellFormed (aggregate op text c ds) = IsClause c × AreWellFormed ds
+  IsWellFormed (aggregate op text c ds) = IfSome c (λ (before, (by, text, ls)). IsLabels ls) × AreWellFormed ds
   IsWellFormed (postfixed d p) = IsWellFormed d × IsBase d
   IsWellFormed (unary op text d) = (is_plus_or_minus op ≡ true) × IsWellFormed d × FitsUnary d
-  IsWellFormed (binary op text m l r) = IsWellFormed l × IsWellFormed r × IsMatching m.matching × FitsLeft op (openness l) × FitsRight op r × FitsMatching m.matching m.fills (yield r)
+  IsWellFormed (binary op text m l r) = IsWellFormed l × IsWellFormed r × IsMatching m.1 × FitsLeft op (openness l) × FitsRight op r × FitsMatching m.1 m.2 (yield r)
   IsWellFormed d = Unit {0}
 
   pub AreWellFormed : Arguments → Type 0

@@ -1,5 +1,5 @@
 -- The parts of an expression that hold no expression, and their tokens (docs/reference/grammar.md, "Parts").
-use Rattle.std.specs.Prelude.{◌≡◌, Bool, true, false, not, if◌then◌else◌, Option, List, [], ◌∷◌, ◌++◌}
+use Rattle.std.specs.Prelude.{◌≡◌, Bool, true, false, not, if◌then◌else◌, Option, IfSome, List, [], ◌∷◌, ◌++◌}
 use Rattle.std.specs.Option.{option_map_or}
 use Rattle.promql_text.specs.Texts.{Text}
 use Rattle.promql_token.specs.declared.ids.TheConstants.{T_NEQ, T_LOR, T_ADD, T_SUB}
@@ -16,18 +16,15 @@ yield_time (seconds text) = word kind.Number text ∷ []
 yield_time (duration text) = word kind.Duration text ∷ []
 
 -- "Signs": nothing, or an operator `+` or `-`
-pub data Signed : Type 0 where
-  unsigned : Signed
-  signed : (minus : Bool) → Text → Signed
+abbrev pub Signed : Type 0
+Signed = Option ((minus : Bool) × Text)
 
 abbrev pub yield_signed : Signed → List Symbol
-yield_signed unsigned = []
-yield_signed (signed minus text) = word (kind.Operator (if minus then T_SUB else T_ADD)) text ∷ []
+yield_signed s = option_map_or (λ (minus, text). word (kind.Operator (if minus then T_SUB else T_ADD)) text ∷ []) s []
 
 -- a minus negates, a plus does not
 abbrev pub is_minus : Signed → Bool
-is_minus unsigned = false
-is_minus (signed minus text) = minus
+is_minus s = option_map_or (λ (minus, text). minus) s false
 
 -- "Labels": what follows an opening parenthesis: none, a last one, or one with a comma after it and what follows that
 pub data Labels : Type 0 where
@@ -49,42 +46,30 @@ IsLabels (last k text) = may_be_label k ≡ true
 IsLabels (next k text ls) = (may_be_label k ≡ true) × IsLabels ls
 
 -- "Clauses": what an aggregation keeps (`by`) or drops (`without`), before or after its arguments
-pub data Grouping : Type 0 where
-  grouping : (by : Bool) → Text → Labels → Grouping
+abbrev pub Grouping : Type 0
+Grouping = (by : Bool) × Text × Labels
 
-pub data Clause : Type 0 where
-  no_clause : Clause
-  before after : Grouping → Clause
+abbrev pub Clause : Type 0
+Clause = Option ((before : Bool) × Grouping)
 
 abbrev pub yield_grouping : Grouping → List Symbol
-yield_grouping (grouping by text ls) = word (if by then kind.By else kind.Without) text ∷ yield_labels ls
+yield_grouping (by, text, ls) = word (if by then kind.By else kind.Without) text ∷ yield_labels ls
 
 abbrev pub yield_before : Clause → List Symbol
-yield_before (before g) = yield_grouping g
-yield_before _ = []
+yield_before c = option_map_or (λ (before, g). if before then yield_grouping g else []) c []
 
 abbrev pub yield_after : Clause → List Symbol
-yield_after (after g) = yield_grouping g
-yield_after _ = []
+yield_after c = option_map_or (λ (before, g). if before then [] else yield_grouping g) c []
 
-abbrev pub IsClause : Clause → Type 0
-IsClause no_clause = Unit {0}
-IsClause (before (grouping by text ls)) = IsLabels ls
-IsClause (after (grouping by text ls)) = IsLabels ls
+-- "Modifiers": what may come between an operator and its right side; a grouping word is bare or has labels
+abbrev pub Group : Type 0
+Group = Option ((left : Bool) × Text × Option Labels)
 
--- "Modifiers": what may come between an operator and its right side
-pub data Group : Type 0 where
-  no_group : Group
-  bare : (left : Bool) → Text → Group
-  listed : (left : Bool) → Text → Labels → Group
+abbrev pub Matching : Type 0
+Matching = Option ((on : Bool) × Text × Labels × Group)
 
-pub data Matching : Type 0 where
-  no_matching : Matching
-  matching : (on : Bool) → Text → Labels → Group → Matching
-
-pub record FillValue : Type 0 where
-  pub sign : Signed
-  pub number : Text
+abbrev pub FillValue : Type 0
+FillValue = Signed × Text
 
 -- one value for both sides, one for a side, or that and one for the other side
 pub data Fills : Type 0 where
@@ -93,22 +78,17 @@ pub data Fills : Type 0 where
   one : (left : Bool) → Text → FillValue → Fills
   two : (left : Bool) → Text → FillValue → Text → FillValue → Fills
 
-pub record Modifier : Type 0 where
-  pub flag : Option Text
-  pub matching : Matching
-  pub fills : Fills
+abbrev pub Modifier : Type 0
+Modifier = (flag : Option Text) × Matching × Fills
 
 abbrev pub yield_group : Group → List Symbol
-yield_group no_group = []
-yield_group (bare left text) = word (if left then kind.GroupLeft else kind.GroupRight) text ∷ []
-yield_group (listed left text ls) = word (if left then kind.GroupLeft else kind.GroupRight) text ∷ yield_labels ls
+yield_group g = option_map_or (λ (left, text, ls). word (if left then kind.GroupLeft else kind.GroupRight) text ∷ option_map_or yield_labels ls []) g []
 
 abbrev pub yield_matching : Matching → List Symbol
-yield_matching no_matching = []
-yield_matching (matching on text ls g) = word (if on then kind.On else kind.Ignoring) text ∷ (yield_labels ls ++ yield_group g)
+yield_matching m = option_map_or (λ (on, text, ls, g). word (if on then kind.On else kind.Ignoring) text ∷ (yield_labels ls ++ yield_group g)) m []
 
 abbrev pub yield_value : FillValue → List Symbol
-yield_value v = punct kind.LeftParen ∷ (yield_signed v.sign ++ word kind.Number v.number ∷ punct kind.RightParen ∷ [])
+yield_value (s, number) = punct kind.LeftParen ∷ (yield_signed s ++ word kind.Number number ∷ punct kind.RightParen ∷ [])
 
 abbrev pub yield_side : Bool → Text → FillValue → List Symbol
 yield_side left text v = word (if left then kind.FillLeft else kind.FillRight) text ∷ yield_value v
@@ -120,15 +100,10 @@ yield_fills (one left text v) = yield_side left text v
 yield_fills (two left text v text' w) = yield_side left text v ++ yield_side (not left) text' w
 
 abbrev pub yield_modifier : Modifier → List Symbol
-yield_modifier m = option_map_or (λ text. word kind.Bool text ∷ []) m.flag [] ++ (yield_matching m.matching ++ yield_fills m.fills)
-
-abbrev pub IsGroup : Group → Type 0
-IsGroup (listed left text ls) = IsLabels ls
-IsGroup g = Unit {0}
+yield_modifier (flag, m, f) = option_map_or (λ text. word kind.Bool text ∷ []) flag [] ++ (yield_matching m ++ yield_fills f)
 
 abbrev pub IsMatching : Matching → Type 0
-IsMatching no_matching = Unit {0}
-IsMatching (matching on text ls g) = IsLabels ls × IsGroup g
+IsMatching m = IfSome m (λ (on, text, ls, g). IsLabels ls × IfSome g (λ (left, text, ls). IfSome ls IsLabels))
 
 -- "Selectors": a name, matchers in braces, or both
 pub data MatchOperator : Type 0 where
@@ -145,21 +120,19 @@ pub data Item : Type 0 where
   matcher : (quoted : Bool) → Text → MatchOperator → Text → Item
   lone : Text → Item
 
-pub data Separator : Type 0 where
-  comma : Separator
-  or : Text → Separator
+-- an `or`, where it is no comma
+abbrev pub Separator : Type 0
+Separator = Option Text
 
 abbrev pub yield_separator : Separator → Symbol
-yield_separator comma = punct kind.Comma
-yield_separator (or text) = word (kind.Operator T_LOR) text
+yield_separator s = option_map_or (word (kind.Operator T_LOR)) s (punct kind.Comma)
 
 pub data Items : Type 0 where
-  last_item last_item_comma : Item → Items
+  last_item : Item → (comma : Bool) → Items
   next_item : Item → Separator → Items → Items
 
-pub data Braces : Type 0 where
-  no_item : Braces
-  items : Items → Braces
+abbrev pub Braces : Type 0
+Braces = Option Items
 
 -- a matcher's name is an identifier or a string
 abbrev pub name_kind : Bool → TokenKind
@@ -170,16 +143,11 @@ yield_item (matcher quoted text s value) = word (name_kind quoted) text ∷ yiel
 yield_item (lone text) = word kind.String text ∷ []
 
 abbrev pub yield_items : Items → List Symbol
-yield_items (last_item i) = yield_item i ++ punct kind.RightBrace ∷ []
-yield_items (last_item_comma i) = yield_item i ++ punct kind.Comma ∷ punct kind.RightBrace ∷ []
+yield_items (last_item i comma) = yield_item i ++ (if comma then punct kind.Comma ∷ punct kind.RightBrace ∷ [] else punct kind.RightBrace ∷ [])
 yield_items (next_item i s is) = yield_item i ++ yield_separator s ∷ yield_items is
 
 abbrev pub yield_braces : Braces → List Symbol
-yield_braces no_item = punct kind.LeftBrace ∷ punct kind.RightBrace ∷ []
-yield_braces (items is) = punct kind.LeftBrace ∷ yield_items is
-
-abbrev pub yield_any_braces : Option Braces → List Symbol
-yield_any_braces b = option_map_or yield_braces b []
+yield_braces b = punct kind.LeftBrace ∷ option_map_or yield_items b (punct kind.RightBrace ∷ [])
 
 -- "Postfixes": what may follow a base
 pub data Postfix : Type 0 where

@@ -60,13 +60,13 @@ pub data ItemEnd : Type 0 where
 abbrev pub parse_item_end : List Symbol → Read ItemEnd
 parse_item_end (punct kind.RightBrace ∷ ts) = Ok (closes, ts)
 parse_item_end (punct kind.Comma ∷ (punct kind.RightBrace ∷ ts)) = Ok (comma_closes, ts)
-parse_item_end (punct kind.Comma ∷ ts) = Ok (joins part.comma, ts)
-parse_item_end (word (kind.Operator op) t ∷ ts) = if op == T_LOR then Ok (joins (part.or t), ts) else Err (misfit (word (kind.Operator op) t ∷ ts))
+parse_item_end (punct kind.Comma ∷ ts) = Ok (joins None, ts)
+parse_item_end (word (kind.Operator op) t ∷ ts) = if op == T_LOR then Ok (joins (Some t), ts) else Err (misfit (word (kind.Operator op) t ∷ ts))
 parse_item_end ts = Err (misfit ts)
 
 abbrev pub is_or : part.Separator → Bool
-is_or part.comma = false
-is_or (part.or text) = true
+is_or None = false
+is_or (Some text) = true
 
 -- whether the next matcher begins a group, where there is a next one
 abbrev pub next_group : ItemEnd → Option Bool

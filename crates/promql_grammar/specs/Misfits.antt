@@ -9,7 +9,5 @@ NoneFits front [] = (d : Derivation) → IsWellFormed d → ¬ (yield d ≡ fron
 NoneFits front (x ∷ rest) = (d : Derivation) (others : List Symbol) → IsWellFormed d → ¬ (yield d ≡ front ++ x ∷ others)
 
 -- the tokens from the first that does not fit
-pub record AreMisfits (ts rest : List Symbol) : Type 0 where
-  pub front : List Symbol
-  pub splits : ts ≡ front ++ rest
-  pub none : NoneFits front rest
+abbrev pub AreMisfits : List Symbol → List Symbol → Type 0
+AreMisfits ts rest = (front : List Symbol) × (ts ≡ front ++ rest) × NoneFits front rest

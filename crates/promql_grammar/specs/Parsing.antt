@@ -6,7 +6,7 @@ use Rattle.promql_grammar.specs.declared.token_kinds.TokenKind.{TokenKind}
 use Rattle.promql_grammar.specs.declared.token_kinds.TokenKind.TheVariants as kind
 use Rattle.promql_grammar.specs.Results.{◌then◌}
 use Rattle.promql_grammar.specs.Symbols.{Symbol, punct, word, is_plus_or_minus, may_be_name, may_be_label}
-use Rattle.promql_grammar.specs.GrammarParts.{Time, seconds, duration, Signed, unsigned, signed, Labels, no_label, last, next, Grouping, grouping, Clause, no_clause, before, after, Group, no_group, bare, listed, Matching, no_matching, matching, FillValue, Fills, no_fill, both, one, two, Modifier, MatchOperator, equal, not_equal, equal_regex, not_equal_regex, Item, matcher, lone, comma, or, Items, last_item, last_item_comma, next_item, Braces, no_item, items, Postfix, range, subquery, at_number, at_bound, offset, mode}
+use Rattle.promql_grammar.specs.GrammarParts.{Time, seconds, duration, Signed, Labels, no_label, last, next, Grouping, Clause, Group, Matching, FillValue, Fills, no_fill, both, one, two, Modifier, MatchOperator, equal, not_equal, equal_regex, not_equal_regex, Item, matcher, lone, Items, last_item, next_item, Braces, Postfix, range, subquery, at_number, at_bound, offset, mode}
 use Rattle.promql_grammar.specs.Grammar.{Derivation, number, string, selector, nameless, paren, call, aggregate, postfixed, unary, binary, Arguments, none, more, precedence, height}
 use Rattle.promql_grammar.specs.Grammar as grammar
 
@@ -34,8 +34,8 @@ parse_time ts = Err (misfit ts)
 
 abbrev pub eat_sign : List Symbol → Read Signed
 eat_sign (word (kind.Operator op) t ∷ ts) =
-    if op == T_ADD then Ok (signed false t, ts) else if op == T_SUB then Ok (signed true t, ts) else Ok (unsigned, word (kind.Operator op) t ∷ ts)
-eat_sign ts = Ok (unsigned, ts)
+    if op == T_ADD then Ok (Some (false, t), ts) else if op == T_SUB then Ok (Some (true, t), ts) else Ok (None, word (kind.Operator op) t ∷ ts)
+eat_sign ts = Ok (None, ts)
 
 abbrev pub parse_number : List Symbol → Read Text
 parse_number (word kind.Number t ∷ ts) = Ok (t, ts)
@@ -60,29 +60,29 @@ parse_labels ts = Err (misfit ts)
 
 -- a grouping after arguments, if there is one
 abbrev pub parse_grouping : List Symbol → Read Clause
-parse_grouping (word kind.By t ∷ ts) = parse_labels ts then λ l. Ok (after (grouping true t l.0), l.1)
-parse_grouping (word kind.Without t ∷ ts) = parse_labels ts then λ l. Ok (after (grouping false t l.0), l.1)
-parse_grouping ts = Ok (no_clause, ts)
+parse_grouping (word kind.By t ∷ ts) = parse_labels ts then λ l. Ok (Some (false, (true, t, l.0)), l.1)
+parse_grouping (word kind.Without t ∷ ts) = parse_labels ts then λ l. Ok (Some (false, (false, t, l.0)), l.1)
+parse_grouping ts = Ok (None, ts)
 
 abbrev pub parse_group_labels : Bool → Text → List Symbol → Read Group
-parse_group_labels left t (punct kind.LeftParen ∷ ts) = parse_label_list ts then λ l. Ok (listed left t l.0, l.1)
-parse_group_labels left t ts = Ok (bare left t, ts)
+parse_group_labels left t (punct kind.LeftParen ∷ ts) = parse_label_list ts then λ l. Ok (Some (left, t, Some l.0), l.1)
+parse_group_labels left t ts = Ok (Some (left, t, None), ts)
 
 abbrev pub parse_group : List Symbol → Read Group
 parse_group (word kind.GroupLeft t ∷ ts) = parse_group_labels true t ts
 parse_group (word kind.GroupRight t ∷ ts) = parse_group_labels false t ts
-parse_group ts = Ok (no_group, ts)
+parse_group ts = Ok (None, ts)
 
 abbrev pub parse_matching_after : Bool → Text → List Symbol → Read Matching
-parse_matching_after on t ts = parse_labels ts then λ l. parse_group l.1 then λ g. Ok (matching on t l.0 g.0, g.1)
+parse_matching_after on t ts = parse_labels ts then λ l. parse_group l.1 then λ g. Ok (Some (on, t, l.0, g.0), g.1)
 
 abbrev pub parse_matching : List Symbol → Read Matching
 parse_matching (word kind.On t ∷ ts) = parse_matching_after true t ts
 parse_matching (word kind.Ignoring t ∷ ts) = parse_matching_after false t ts
-parse_matching ts = Ok (no_matching, ts)
+parse_matching ts = Ok (None, ts)
 
 abbrev pub parse_fill_value_end : Signed → Text → List Symbol → Read FillValue
-parse_fill_value_end s n (punct kind.RightParen ∷ ts) = Ok (record { sign = s; number = n }, ts)
+parse_fill_value_end s n (punct kind.RightParen ∷ ts) = Ok ((s, n), ts)
 parse_fill_value_end s n ts = Err (misfit ts)
 
 abbrev pub parse_fill_value : List Symbol → Read FillValue
@@ -108,7 +108,7 @@ parse_flag (word kind.Bool t ∷ ts) = Ok (Some t, ts)
 parse_flag ts = Ok (None, ts)
 
 abbrev pub with_fills : Option Text → Matching → Fills × List Symbol → Read Modifier
-with_fills b m f = Ok (record { flag = b; matching = m; fills = f.0 }, f.1)
+with_fills b m f = Ok ((b, m, f.0), f.1)
 
 abbrev pub with_matching : Option Text → Matching × List Symbol → Read Modifier
 with_matching b m = parse_fills m.1 then with_fills b m.0
@@ -141,10 +141,10 @@ parse_item (word kind.String t ∷ ts) = parse_match_operator ts then parse_afte
 parse_item ts = Err (misfit ts)
 
 abbrev pub parse_after_item : (List Symbol → Read Items) → Item → List Symbol → Read Items
-parse_after_item r i (punct kind.RightBrace ∷ ts) = Ok (last_item i, ts)
-parse_after_item r i (punct kind.Comma ∷ (punct kind.RightBrace ∷ ts)) = Ok (last_item_comma i, ts)
-parse_after_item r i (punct kind.Comma ∷ ts) = r ts then λ y. Ok (next_item i comma y.0, y.1)
-parse_after_item r i (word (kind.Operator op) t ∷ ts) = if op == T_LOR then (r ts then λ y. Ok (next_item i (or t) y.0, y.1)) else Err (misfit (word (kind.Operator op) t ∷ ts))
+parse_after_item r i (punct kind.RightBrace ∷ ts) = Ok (last_item i false, ts)
+parse_after_item r i (punct kind.Comma ∷ (punct kind.RightBrace ∷ ts)) = Ok (last_item i true, ts)
+parse_after_item r i (punct kind.Comma ∷ ts) = r ts then λ y. Ok (next_item i None y.0, y.1)
+parse_after_item r i (word (kind.Operator op) t ∷ ts) = if op == T_LOR then (r ts then λ y. Ok (next_item i (Some t) y.0, y.1)) else Err (misfit (word (kind.Operator op) t ∷ ts))
 parse_after_item r i ts = Err (misfit ts)
 
 abbrev pub parse_items : ℕ → List Symbol → Read Items
@@ -153,8 +153,8 @@ parse_items (suc k) ts = parse_item ts then λ i. parse_after_item (parse_items 
 
 -- matchers after an opening brace
 abbrev pub parse_braces : List Symbol → Read Braces
-parse_braces (punct kind.RightBrace ∷ ts) = Ok (no_item, ts)
-parse_braces ts = parse_items (length ts) ts then λ y. Ok (items y.0, y.1)
+parse_braces (punct kind.RightBrace ∷ ts) = Ok (None, ts)
+parse_braces ts = parse_items (length ts) ts then λ y. Ok (Some y.0, y.1)
 
 abbrev pub parse_optional_braces : List Symbol → Read (Option Braces)
 parse_optional_braces (punct kind.LeftBrace ∷ ts) = parse_braces ts then λ b. Ok (Some b.0, b.1)
@@ -226,13 +226,13 @@ parse_call r k n w t (punct kind.LeftParen ∷ ts) = parse_arguments r ts then �
 parse_call r k n w t ts = parse_selector k n w t ts
 
 abbrev pub parse_grouped_aggregate : Reader → ℕ → ℕ → ℕ → Text → Grouping → List Symbol → Read Derivation
-parse_grouped_aggregate r k n op t g (punct kind.LeftParen ∷ ts) = parse_arguments r ts then λ y. parse_postfixes k n (aggregate op t (before g) y.0) y.1
+parse_grouped_aggregate r k n op t g (punct kind.LeftParen ∷ ts) = parse_arguments r ts then λ y. parse_postfixes k n (aggregate op t (Some (true, g)) y.0) y.1
 parse_grouped_aggregate r k n op t g ts = Err (misfit ts)
 
 abbrev pub parse_aggregate : Reader → ℕ → ℕ → ℕ → Text → List Symbol → Read Derivation
 parse_aggregate r k n op t (punct kind.LeftParen ∷ ts) = parse_arguments r ts then λ y. parse_grouping y.1 then λ c. parse_postfixes k n (aggregate op t c.0 y.0) c.1
-parse_aggregate r k n op t (word kind.By u ∷ ts) = parse_labels ts then λ l. parse_grouped_aggregate r k n op t (grouping true u l.0) l.1
-parse_aggregate r k n op t (word kind.Without u ∷ ts) = parse_labels ts then λ l. parse_grouped_aggregate r k n op t (grouping false u l.0) l.1
+parse_aggregate r k n op t (word kind.By u ∷ ts) = parse_labels ts then λ l. parse_grouped_aggregate r k n op t (true, u, l.0) l.1
+parse_aggregate r k n op t (word kind.Without u ∷ ts) = parse_labels ts then λ l. parse_grouped_aggregate r k n op t (false, u, l.0) l.1
 parse_aggregate r k n op t ts = parse_selector k n (kind.Aggregator op) t ts
 
 -- a form with no binary operator outside, of height at most n, with at most k postfixes

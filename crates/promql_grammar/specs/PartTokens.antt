@@ -1,5 +1,5 @@
 -- What the parser's functions for parts take from the tokens. Private: nothing rests on believing it.
-use Rattle.std.specs.Prelude.{◌≡◌, Bool, true, false, ◌==◌, if◌then◌else◌, Option, Some, None, List, [], ◌∷◌, Ok, Err}
+use Rattle.std.specs.Prelude.{◌≡◌, Bool, true, false, ◌==◌, if◌then◌else◌, Option, Some, None, IfSome, List, [], ◌∷◌, Ok, Err}
 use Rattle.std.specs.Option.{option_map_or}
 use Rattle.promql_text.specs.Texts.{Text}
 use Rattle.promql_token.specs.declared.ids.TheConstants.{T_ADD, T_SUB}
@@ -9,6 +9,7 @@ use Rattle.promql_grammar.specs.Results.{◌then◌}
 use Rattle.promql_grammar.specs.Symbols.{Symbol, punct, word, may_be_label}
 use Rattle.promql_grammar.specs.GrammarParts as part
 use Rattle.promql_grammar.specs.GrammarParts.{is_minus}
+use Rattle.promql_grammar.specs.Grammar.{Arguments, yield_arguments}
 use Rattle.promql_grammar.specs.Parsing.{Read, eat_sign, misfit, parse_number, parse_time}
 
 -- the tokens of a flag, and of the step of a subquery, if there is one
@@ -18,8 +19,22 @@ yield_flag flag = option_map_or (λ text. word kind.Bool text ∷ []) flag []
 abbrev pub yield_step : Option part.Time → List Symbol
 yield_step step = option_map_or part.yield_time step []
 
+-- the tokens of braces, if there are any, and of the arguments after the first
+abbrev pub yield_any_braces : Option part.Braces → List Symbol
+yield_any_braces b = option_map_or part.yield_braces b []
+
+abbrev pub yield_rest : Arguments → List Symbol
+yield_rest ds = yield_arguments (punct kind.Comma ∷ []) ds
+
+-- the labels of a clause, and those of a group, if there are any
+abbrev pub IsClause : part.Clause → Type 0
+IsClause c = IfSome c (λ (before, (by, text, ls)). part.IsLabels ls)
+
+abbrev pub IsGroup : part.Group → Type 0
+IsGroup g = IfSome g (λ (left, text, ls). IfSome ls part.IsLabels)
+
 abbrev pub IsGrouping : part.Grouping → Type 0
-IsGrouping (part.grouping by text ls) = part.IsLabels ls
+IsGrouping (by, text, ls) = part.IsLabels ls
 
 -- `by` or `without`
 abbrev pub StartsGrouping : List Symbol → Type 0

@@ -6,16 +6,17 @@ use Rattle.promql_text.specs.Texts.{Text}
 use Rattle.promql_token.specs.declared.ids.TheConstants.{T_SUB}
 use Rattle.promql_grammar.specs.declared.token_kinds.TokenKind.TheVariants as kind
 use Rattle.promql_grammar.specs.Grammar as grammar
-use Rattle.promql_grammar.specs.Grammar.{Derivation, Arguments, yield, yield_arguments, yield_rest}
+use Rattle.promql_grammar.specs.Grammar.{Derivation, Arguments, yield, yield_arguments}
 use Rattle.promql_grammar.specs.GrammarParts as part
 use Rattle.promql_grammar.specs.GrammarParts.{yield_after, yield_before, yield_modifier, yield_postfix}
 use Rattle.promql_grammar.specs.Symbols.{punct, word}
 use Rattle.promql_grammar.proofs.Complete.{tall}
 use Rattle.promql_grammar.proofs.Sound.{height_yield}
+use Rattle.promql_grammar.specs.PartTokens.{yield_rest}
 use Rattle.promql_ast.specs.Fold.{all_within}
 use Rattle.promql_ast.specs.Tree.{Tree, aggregate, unary, binary, paren, subquery, number, string, vector, matrix, call, MaybeTree, absent, present, Trees}
 use Rattle.promql_syntax.specs.Building.{build, build_all}
-use Rattle.promql_syntax.specs.FaultTokens.{Subexpression, here, rest_count}
+use Rattle.promql_syntax.specs.FaultTokens.{Subexpression, rest_count}
 use Rattle.promql_syntax.proofs.readback.CheckedAgain.{arguments}
 use Rattle.promql_places.proofs.Pairs.{InOrder}
 use Rattle.promql_places.specs.NodePlaces.{BuildEach, IsNested, LiesWithin, argument_nodes, has_node, is_number, nodes, nodes_below, tree_nodes}
@@ -149,10 +150,10 @@ wider k n j m (x ∷ xs) h i all =
     let begins = first.begins in
     (record { some = first.some; ends = omega arith; begins = omega arith }, wider k n j m xs h i all.1)
 
-lies_here : (k : ℕ) (d : Derivation) → LiesWithin k (length (yield d) + k) (here k d)
+lies_here : (k : ℕ) (d : Derivation) → LiesWithin k (length (yield d) + k) (k, d)
 lies_here k d = record { some = some_tokens d; ends = omega arith; begins = omega arith }
 
-rest_fits : (ds : Arguments) → rest_count ds ≤ length (yield_arguments ds)
+rest_fits : (ds : Arguments) → rest_count ds ≤ length (yield_arguments [] ds)
 rest_fits grammar.none = omega arith
 rest_fits (grammar.more d ds) = let more = length_rest ds in let joined = length-append (yield d) (yield_rest ds) in omega arith
   where
@@ -187,8 +188,8 @@ mutual
   lie_below (grammar.aggregate op t c ds) k =
       let fits = rest_fits ds in
       let j = 1 + (length (yield_after c) + k) in
-      let one = length-append (yield_before c) (punct kind.LeftParen ∷ (yield_arguments ds ++ yield_after c)) in
-      let two = length-append (yield_arguments ds) (yield_after c) in
+      let one = length-append (yield_before c) (punct kind.LeftParen ∷ (yield_arguments [] ds ++ yield_after c)) in
+      let two = length-append (yield_arguments [] ds) (yield_after c) in
       wider j (rest_count ds + j) k (length (yield (grammar.aggregate op t c ds)) + k) (argument_nodes j ds) (omega arith) (omega arith) (lie_all ds j)
   lie_below (grammar.postfixed d (part.subquery r e)) k =
       let p = part.subquery r e in
@@ -224,11 +225,11 @@ nodes_lie d k = (lies_here k d, lie_below d k)
 
 -- ---- each lies within an earlier one, or after it
 
-nested_in : (a : Subexpression) (xs : List Subexpression) → AllLie a.after (length (yield a.derivation) + a.after) xs → AllByRecursion (IsNested a) xs
+nested_in : (a : Subexpression) (xs : List Subexpression) → AllLie a.0 (length (yield a.1) + a.0) xs → AllByRecursion (IsNested a) xs
 nested_in a [] all = tt
 nested_in a (x ∷ xs) all = (inl all.0, nested_in a xs all.1)
 
-nested_after : (a : Subexpression) (j m : ℕ) (xs : List Subexpression) → m ≤ a.after → AllLie j m xs → AllByRecursion (IsNested a) xs
+nested_after : (a : Subexpression) (j m : ℕ) (xs : List Subexpression) → m ≤ a.0 → AllLie j m xs → AllByRecursion (IsNested a) xs
 nested_after a j m [] h all = tt
 nested_after a j m (x ∷ xs) h all = let first = all.0 in let begins = first.begins in (inr (omega arith), nested_after a j m xs h all.1)
 
@@ -253,30 +254,30 @@ mutual
   nested_below (grammar.string t) k = tt
   nested_below (grammar.selector w t b) k = tt
   nested_below (grammar.nameless b) k = tt
-  nested_below (grammar.paren d) k = (nested_in (here (1 + k) d) _ (lie_below d (1 + k)), nested_below d (1 + k))
+  nested_below (grammar.paren d) k = (nested_in ((1 + k), d) _ (lie_below d (1 + k)), nested_below d (1 + k))
   nested_below (grammar.call w t ds) k = nested_all ds (1 + k)
   nested_below (grammar.aggregate op t c ds) k = nested_all ds (1 + (length (yield_after c) + k))
   nested_below (grammar.postfixed d (part.subquery r e)) k =
       let j = length (yield_postfix (part.subquery r e)) + k in
-      (nested_in (here j d) (nodes_below j d) (lie_below d j), nested_below d j)
+      (nested_in (j, d) (nodes_below j d) (lie_below d j), nested_below d j)
   nested_below (grammar.postfixed d (part.range r)) k = nested_below d (length (yield_postfix (part.range r)) + k)
   nested_below (grammar.postfixed d (part.at_number s t)) k = nested_below d (length (yield_postfix (part.at_number s t)) + k)
   nested_below (grammar.postfixed d (part.at_bound w t)) k = nested_below d (length (yield_postfix (part.at_bound w t)) + k)
   nested_below (grammar.postfixed d (part.offset t s r)) k = nested_below d (length (yield_postfix (part.offset t s r)) + k)
   nested_below (grammar.postfixed d (part.mode w t)) k = nested_below d (length (yield_postfix (part.mode w t)) + k)
-  nested_below (grammar.unary op t d) k = chosen_nested (has_node op d) k d (nested_in (here k d) (nodes_below k d) (lie_below d k), nested_below d k)
+  nested_below (grammar.unary op t d) k = chosen_nested (has_node op d) k d (nested_in (k, d) (nodes_below k d) (lie_below d k), nested_below d k)
   nested_below (grammar.binary op t m l r) k =
       let j = 1 + (length (yield_modifier m) + (length (yield r) + k)) in
       nested_joined (nodes j l) (nodes k r) j (length (yield l) + j) k (length (yield r) + k) (omega arith) (nodes_lie l j) (nodes_lie r k)
-      (nested_in (here j l) (nodes_below j l) (lie_below l j), nested_below l j)
-      (nested_in (here k r) (nodes_below k r) (lie_below r k), nested_below r k)
+      (nested_in (j, l) (nodes_below j l) (lie_below l j), nested_below l j)
+      (nested_in (k, r) (nodes_below k r) (lie_below r k), nested_below r k)
 
   pub nested_all : (ds : Arguments) (k : ℕ) → AreNested (argument_nodes k ds)
   nested_all grammar.none k = tt
   nested_all (grammar.more d ds) k =
       let j = rest_count ds + k in
       nested_joined (nodes j d) (argument_nodes k ds) j (length (yield d) + j) k (rest_count ds + k) (omega arith) (nodes_lie d j) (lie_all ds k)
-      (nested_in (here j d) (nodes_below j d) (lie_below d j), nested_below d j) (nested_all ds k)
+      (nested_in (j, d) (nodes_below j d) (lie_below d j), nested_below d j) (nested_all ds k)
 
 pub nodes_nested : (k : ℕ) (d : Derivation) → AreNested (nodes k d)
-nodes_nested k d = (nested_in (here k d) (nodes_below k d) (lie_below d k), nested_below d k)
+nodes_nested k d = (nested_in (k, d) (nodes_below k d) (lie_below d k), nested_below d k)

@@ -24,13 +24,14 @@ use Rattle.promql_ast.specs.check.VectorChecks.{selector_fault}
 use Rattle.promql_ast.specs.declared.range_mode.RangeMode.{RangeMode}
 use Rattle.promql_ast.specs.declared.range_mode.RangeMode.TheVariants.{Plain}
 use Rattle.promql_syntax.specs.Asking.{AreAllowed, Asking, gives, fails, asks, ◌giving◌, known, Asked, Ends, EndsIn}
-use Rattle.promql_syntax.specs.Building.{build, build_all, build_call, build_postfix, build_unary, from_checked_verdict, from_verdict, selector_tree}
+use Rattle.promql_syntax.specs.Building.{build, build_all, build_postfix, from_checked_verdict, from_verdict, selector_tree}
 use Rattle.promql_syntax.specs.Postfixes.{bound_moment, range_mode}
 use Rattle.promql_syntax.specs.BuildErrors.{BuildError, check, unknown_function}
-use Rattle.promql_syntax.specs.PartBuilding.{braces_value, clause_value, duration_value, modifier_value, moment_value, number_value, shift_value, step_value, string_value, time_value}
+use Rattle.promql_syntax.specs.PartBuilding.{braces_value, duration_value, modifier_value, moment_value, number_value, shift_value, string_value, time_value}
 use Rattle.promql_syntax.specs.Atoms.{any_braces_value}
 use Rattle.promql_syntax.proofs.readback.CheckedAgain.{aggregate_again, aggregates, arguments, call_again, same_tree, unary_again}
 use Rattle.promql_syntax.proofs.printed.PrintedModifiers.{binary_checked}
+use Rattle.promql_syntax.specs.PartWords.{build_call, build_unary, clause_value, step_value}
 
 -- ---- building that gives a value
 

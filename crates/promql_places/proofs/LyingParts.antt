@@ -6,8 +6,8 @@ use Rattle.promql_grammar.specs.declared.token_kinds.TokenKind.TheVariants as ki
 use Rattle.promql_grammar.specs.Grammar as grammar
 use Rattle.promql_grammar.specs.Grammar.{Derivation, yield, yield_arguments}
 use Rattle.promql_grammar.specs.GrammarParts as part
-use Rattle.promql_grammar.specs.GrammarParts.{yield_after, yield_any_braces, yield_before, yield_braces, yield_fills, yield_group, yield_grouping, yield_item, yield_items, yield_labels, yield_matching, yield_modifier, yield_names, yield_postfix}
-use Rattle.promql_grammar.specs.PartTokens.{yield_flag}
+use Rattle.promql_grammar.specs.GrammarParts.{yield_after, yield_before, yield_braces, yield_fills, yield_group, yield_grouping, yield_item, yield_items, yield_labels, yield_matching, yield_modifier, yield_names, yield_postfix}
+use Rattle.promql_grammar.specs.PartTokens.{yield_flag, yield_any_braces}
 use Rattle.promql_grammar.specs.Symbols.{punct, word}
 use Rattle.promql_places.specs.NodeParts.{Follows, PartTokens, clause_parts, group_parts, item_parts, label_parts, matcher_parts, matching_parts, parts, piece, postfix_kind}
 use Rattle.promql_places.specs.NodePlaces.{LieWithin, has_node}
@@ -100,44 +100,44 @@ names_fit p k (part.next w t ls) =
 labels_fit : (p : PartKind) (k : ℕ) (ls : part.Labels) → Fit k (length (yield_labels ls) + k) (label_parts p k ls)
 labels_fit p k ls = wider k (length (yield_names ls) + k) k _ (label_parts p k ls) (omega arith) (omega arith) (names_fit p k ls)
 
-grouping_fit : (k : ℕ) (by : Bool) (t : _) (ls : part.Labels) → Fit k (length (yield_grouping (part.grouping by t ls)) + k) (label_parts sort.Label k ls)
+grouping_fit : (k : ℕ) (by : Bool) (t : _) (ls : part.Labels) → Fit k (length (yield_grouping (by, t, ls)) + k) (label_parts sort.Label k ls)
 grouping_fit k by t ls = wider k (length (yield_labels ls) + k) k _ (label_parts sort.Label k ls) (omega arith) (omega arith) (labels_fit sort.Label k ls)
 
 -- the clause before the arguments, and that after them
 abbrev pub before_parts : ℕ → part.Clause → List PartTokens
-before_parts k (part.before (part.grouping by t ls)) = label_parts sort.Label k ls
+before_parts k (Some (true, (by, t, ls))) = label_parts sort.Label k ls
 before_parts k c = []
 
 abbrev pub after_parts : ℕ → part.Clause → List PartTokens
-after_parts k (part.after (part.grouping by t ls)) = label_parts sort.Label k ls
+after_parts k (Some (false, (by, t, ls))) = label_parts sort.Label k ls
 after_parts k c = []
 
 pub clause_is : (n k : ℕ) (c : part.Clause) → before_parts n c ++ after_parts k c ≡ clause_parts n k c
-clause_is n k part.no_clause = refl
-clause_is n k (part.before (part.grouping by t ls)) = append-nil (label_parts sort.Label n ls)
-clause_is n k (part.after (part.grouping by t ls)) = refl
+clause_is n k None = refl
+clause_is n k (Some (true, (by, t, ls))) = append-nil (label_parts sort.Label n ls)
+clause_is n k (Some (false, (by, t, ls))) = refl
 
 before_fit : (k : ℕ) (c : part.Clause) → Fit k (length (yield_before c) + k) (before_parts k c)
-before_fit k part.no_clause = none_fit k _
-before_fit k (part.before (part.grouping by t ls)) = grouping_fit k by t ls
-before_fit k (part.after g) = none_fit k _
+before_fit k None = none_fit k _
+before_fit k (Some (true, (by, t, ls))) = grouping_fit k by t ls
+before_fit k (Some (false, g)) = none_fit k _
 
 after_fit : (k : ℕ) (c : part.Clause) → Fit k (length (yield_after c) + k) (after_parts k c)
-after_fit k part.no_clause = none_fit k _
-after_fit k (part.before g) = none_fit k _
-after_fit k (part.after (part.grouping by t ls)) = grouping_fit k by t ls
+after_fit k None = none_fit k _
+after_fit k (Some (true, g)) = none_fit k _
+after_fit k (Some (false, (by, t, ls))) = grouping_fit k by t ls
 
 group_fit : (k : ℕ) (g : part.Group) → Fit k (length (yield_group g) + k) (group_parts k g)
-group_fit k part.no_group = none_fit k _
-group_fit k (part.bare w t) = none_fit k _
-group_fit k (part.listed w t ls) = wider k (length (yield_labels ls) + k) k _ (label_parts sort.GroupLabel k ls) (omega arith) (omega arith) (labels_fit sort.GroupLabel k ls)
+group_fit k None = none_fit k _
+group_fit k (Some (w, t, None)) = none_fit k _
+group_fit k (Some (w, t, Some ls)) = wider k (length (yield_labels ls) + k) k _ (label_parts sort.GroupLabel k ls) (omega arith) (omega arith) (labels_fit sort.GroupLabel k ls)
 
 matching_fit : (k : ℕ) (m : part.Matching) → Fit k (length (yield_matching m) + k) (matching_parts k m)
-matching_fit k part.no_matching = none_fit k _
-matching_fit k (part.matching w t ls g) =
+matching_fit k None = none_fit k _
+matching_fit k (Some (w, t, ls, g)) =
     let joined = length-append (yield_labels ls) (yield_group g) in
     let j = length (yield_group g) + k in
-    both_fit (label_parts sort.Label j ls) (group_parts k g) j (length (yield_matching (part.matching w t ls g)) + k) k j (omega arith) (omega arith) (omega arith)
+    both_fit (label_parts sort.Label j ls) (group_parts k g) j (length (yield_matching (Some (w, t, ls, g))) + k) k j (omega arith) (omega arith) (omega arith)
     (wider j (length (yield_labels ls) + j) j _ (label_parts sort.Label j ls) (omega arith) (omega arith) (labels_fit sort.Label j ls)) (group_fit k g)
 
 some_item : (i : part.Item) → 0 < length (yield_item i)
@@ -145,10 +145,10 @@ some_item (part.matcher w t s v) = omega arith
 some_item (part.lone t) = omega arith
 
 items_fit : (k : ℕ) (is : part.Items) → Fit k (length (yield_items is) + k) (item_parts k is)
-items_fit k (part.last_item i) =
+items_fit k (part.last_item i false) =
     let joined = length-append (yield_item i) (punct kind.RightBrace ∷ []) in
     wider (1 + k) (length (yield_item i) + (1 + k)) k _ _ (omega arith) (omega arith) (one_fits sort.Matcher (length (yield_item i)) (1 + k) (some_item i))
-items_fit k (part.last_item_comma i) =
+items_fit k (part.last_item i true) =
     let joined = length-append (yield_item i) (punct kind.Comma ∷ punct kind.RightBrace ∷ []) in
     wider (2 + k) (length (yield_item i) + (2 + k)) k _ _ (omega arith) (omega arith) (one_fits sort.Matcher (length (yield_item i)) (2 + k) (some_item i))
 items_fit k (part.next_item i s is) =
@@ -156,8 +156,8 @@ items_fit k (part.next_item i s is) =
     more_fit k (length (yield_items (part.next_item i s is)) + k) (length (yield_items is) + k) (piece sort.Matcher (length (yield_item i)) (1 + (length (yield_items is) + k))) (item_parts k is) (some_item i) (omega arith) (omega arith) (omega arith) (items_fit k is)
 
 braces_fit : (k : ℕ) (b : part.Braces) → Fit k (length (yield_braces b) + k) (matcher_parts k b)
-braces_fit k part.no_item = none_fit k _
-braces_fit k (part.items is) = wider k (length (yield_items is) + k) k _ (item_parts k is) (omega arith) (omega arith) (items_fit k is)
+braces_fit k None = none_fit k _
+braces_fit k (Some is) = wider k (length (yield_items is) + k) k _ (item_parts k is) (omega arith) (omega arith) (items_fit k is)
 
 any_braces_fit : (k : ℕ) (b : Option part.Braces) → Fit k (length (yield_any_braces b) + k) (option_map_or (matcher_parts k) b [])
 any_braces_fit k None = none_fit k _
@@ -194,11 +194,11 @@ parts_fit (grammar.selector w t b) k =
 parts_fit (grammar.nameless b) k = braces_fit k b
 parts_fit (grammar.paren d) k = none_fit k _
 parts_fit (grammar.call w t ds) k =
-    wider (1 + (length (yield_arguments ds) + k)) _ k _ _ (omega arith) (omega arith) (one_fits sort.Name 1 (1 + (length (yield_arguments ds) + k)) (omega arith))
+    wider (1 + (length (yield_arguments [] ds) + k)) _ k _ _ (omega arith) (omega arith) (one_fits sort.Name 1 (1 + (length (yield_arguments [] ds) + k)) (omega arith))
 parts_fit (grammar.aggregate op t c ds) k =
-    let inner = 1 + (length (yield_arguments ds) + (length (yield_after c) + k)) in
-    let one = length-append (yield_before c) (punct kind.LeftParen ∷ (yield_arguments ds ++ yield_after c)) in
-    let two = length-append (yield_arguments ds) (yield_after c) in
+    let inner = 1 + (length (yield_arguments [] ds) + (length (yield_after c) + k)) in
+    let one = length-append (yield_before c) (punct kind.LeftParen ∷ (yield_arguments [] ds ++ yield_after c)) in
+    let two = length-append (yield_arguments [] ds) (yield_after c) in
     more_fit k (length (yield (grammar.aggregate op t c ds)) + k) (length (yield_before c) + inner) (piece sort.Operator 1 (length (yield_before c) + inner)) _ (omega arith) (omega arith) (omega arith) (omega arith)
     (subst (Fit k (length (yield_before c) + inner)) (clause_is inner k c)
     (both_fit (before_parts inner c) (after_parts k c) inner (length (yield_before c) + inner) k (length (yield_after c) + k) (omega arith) (omega arith) (omega arith) (before_fit inner c) (after_fit k c)))
@@ -215,7 +215,7 @@ parts_fit (grammar.binary op t m l r) k =
     let after = length (yield r) + k in
     let one = length-append (yield l) (word (kind.Operator op) t ∷ (yield_modifier m ++ yield r)) in
     let two = length-append (yield_modifier m) (yield r) in
-    let three = length-append (yield_flag m.flag) (yield_matching m.matching ++ yield_fills m.fills) in
-    let four = length-append (yield_matching m.matching) (yield_fills m.fills) in
+    let three = length-append (yield_flag m.0) (yield_matching m.1 ++ yield_fills m.2) in
+    let four = length-append (yield_matching m.1) (yield_fills m.2) in
     more_fit k (length (yield (grammar.binary op t m l r)) + k) (length (yield_modifier m) + after) (piece sort.Operator 1 (length (yield_modifier m) + after)) _ (omega arith) (omega arith) (omega arith) (omega arith)
-    (wider (length (yield_fills m.fills) + after) (length (yield_matching m.matching) + (length (yield_fills m.fills) + after)) k _ _ (omega arith) (omega arith) (matching_fit (length (yield_fills m.fills) + after) m.matching))
+    (wider (length (yield_fills m.2) + after) (length (yield_matching m.1) + (length (yield_fills m.2) + after)) k _ _ (omega arith) (omega arith) (matching_fit (length (yield_fills m.2) + after) m.1))

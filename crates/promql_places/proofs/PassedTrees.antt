@@ -1,5 +1,5 @@
 -- The pass over the tokens of a derivation, guided by the tree that it builds, finds its nodes.
-use Rattle.std.proofs.Common.{◌≡◌, inl, inr, ℕ, ◌+◌, ◌≤◌, Bool, true, false, cond, not, List, [], ◌∷◌, ◌++◌, Option, None, refl, sym, ap, subst, ◌∙◌, arith, append_assoc, append-nil, drop, length, length-append, map, min}
+use Rattle.std.proofs.Common.{◌≡◌, inl, inr, ℕ, ◌+◌, ◌≤◌, Bool, true, false, cond, not, List, [], ◌∷◌, ◌++◌, Option, None, refl, sym, ap, subst, ◌∙◌, arith, append_assoc, append-nil, drop, length, length-append, map, min, Some}
 use Rattle.std.specs.Prelude.{◌==◌, ◌&&◌, ◌||◌}
 use Rattle.std.proofs.lemmas.Bool.{eqb-true}
 use Rattle.std.proofs.lemmas.Bool.Decides.{nat_tests}
@@ -8,13 +8,14 @@ use Rattle.promql_token.specs.declared.ids.TheConstants.{T_ADD, T_POW, T_SUB}
 use Rattle.promql_grammar.specs.declared.token_kinds.TokenKind.{TokenKind}
 use Rattle.promql_grammar.specs.declared.token_kinds.TokenKind.TheVariants as kind
 use Rattle.promql_grammar.specs.Grammar as grammar
-use Rattle.promql_grammar.specs.Grammar.{Derivation, Arguments, yield, yield_arguments, yield_rest, precedence, openness, FitsLeft, FitsMatching, IsBase, IsWellFormed, AreWellFormed, OpensNoParen}
+use Rattle.promql_grammar.specs.Grammar.{Derivation, Arguments, yield, yield_arguments, precedence, openness, FitsLeft, FitsMatching, IsBase, IsWellFormed, AreWellFormed, OpensNoParen}
 use Rattle.promql_grammar.specs.GrammarParts as part
-use Rattle.promql_grammar.specs.GrammarParts.{Braces, no_item, items, Clause, no_clause, before, after, grouping, Matching, matching, Fills, no_fill, bare, IsClause, IsMatching, yield_after, yield_before, yield_any_braces, yield_fills, yield_modifier, yield_postfix}
+use Rattle.promql_grammar.specs.GrammarParts.{Braces, Clause, Matching, Fills, no_fill, IsMatching, yield_after, yield_before, yield_fills, yield_modifier, yield_postfix}
 use Rattle.promql_grammar.specs.Symbols.{Symbol, punct, word, begins, is_plus_or_minus, is_word_operator, may_be_called, may_be_name}
 use Rattle.promql_grammar.proofs.Complete.{begins_here}
 use Rattle.promql_grammar.proofs.GrammarChoices.{if_false}
 use Rattle.promql_grammar.proofs.Precedences.{is_power}
+use Rattle.promql_grammar.specs.PartTokens.{yield_rest, IsClause, yield_any_braces}
 use Rattle.promql_ast.specs.Tree.{Tree, aggregate, unary, binary, paren, subquery, number, string, vector, matrix, call, MaybeTree, absent, present, Trees, first_tree}
 use Rattle.promql_kind.specs.Modifiers.{Clause as TreeClause}
 use Rattle.promql_syntax.specs.Building.{build, build_all}
@@ -36,7 +37,7 @@ use Rattle.promql_places.proofs.TakenParts.{HasNoParenWord, IsShift, any_braces_
 -- ---- places by counts
 
 abbrev pub count_of : Subexpression → NodeSpan
-count_of sub = ((length (yield sub.derivation) + sub.after, sub.after), spans (parts sub.after sub.derivation))
+count_of sub = ((length (yield sub.1) + sub.0, sub.0), spans (parts sub.0 sub.1))
 
 abbrev pub counts : List Subexpression → List NodeSpan
 counts subs = map count_of subs
@@ -101,8 +102,8 @@ base_no_sign (grammar.number t) rest h b = refl
 base_no_sign (grammar.duration t) rest h b = refl
 base_no_sign (grammar.string t) rest h b = refl
 base_no_sign (grammar.selector k t o) rest h b = if_false _ _ _ (name_no_sign k h)
-base_no_sign (grammar.nameless no_item) rest h b = refl
-base_no_sign (grammar.nameless (items is)) rest h b = refl
+base_no_sign (grammar.nameless None) rest h b = refl
+base_no_sign (grammar.nameless (Some is)) rest h b = refl
 base_no_sign (grammar.paren d) rest h b = refl
 base_no_sign (grammar.call k t ds) rest h b = if_false _ _ _ (called_no_sign k h.0)
 base_no_sign (grammar.aggregate op t c ds) rest h b = refl
@@ -127,10 +128,10 @@ no_paren_word (grammar.number t) rest h = tt
 no_paren_word (grammar.duration t) rest h = tt
 no_paren_word (grammar.string t) rest h = tt
 no_paren_word (grammar.selector k t o) rest h = name_no_paren k t (yield_any_braces o ++ rest) h
-no_paren_word (grammar.nameless no_item) rest h = tt
-no_paren_word (grammar.nameless (items is)) rest h = tt
+no_paren_word (grammar.nameless None) rest h = tt
+no_paren_word (grammar.nameless (Some is)) rest h = tt
 no_paren_word (grammar.paren d) rest h = tt
-no_paren_word (grammar.call k t ds) rest h = called_no_paren k t (punct kind.LeftParen ∷ (yield_arguments ds ++ rest)) h.0
+no_paren_word (grammar.call k t ds) rest h = called_no_paren k t (punct kind.LeftParen ∷ (yield_arguments [] ds ++ rest)) h.0
 no_paren_word (grammar.aggregate op t c ds) rest h = tt
 no_paren_word (grammar.postfixed d p) rest h = subst HasNoParenWord (sym (append_assoc (yield d) (yield_postfix p) rest)) (no_paren_word d (yield_postfix p ++ rest) h.0)
 no_paren_word (grammar.unary op t d) rest h = tt
@@ -172,8 +173,8 @@ selector_lands k t b s name rest free still =
     ∙ ap (λ (r : Taken). then_take (begin []) (λ js. and_then r step.shifts)) (first_is _ _ _ _ own (any_braces_taken b rest free.brace))
 
 nameless_lands : (b : Braces) (s : _) → Lands (grammar.nameless b) (vector s)
-nameless_lands no_item s rest free still = refl
-nameless_lands (items is) s rest free still = ap (λ (r : Taken). then_take (begin []) (λ js. and_then r step.shifts)) (braces_taken (items is) rest)
+nameless_lands None s rest free still = refl
+nameless_lands (Some is) s rest free still = ap (λ (r : Taken). then_take (begin []) (λ js. and_then r step.shifts)) (braces_taken (Some is) rest)
 
 -- ---- the ends of parts
 
@@ -337,10 +338,10 @@ paren_lands d s lands rest free still =
     one_longer rest = omega arith
 
 abbrev LandsAll : Arguments → Trees → Type 0
-LandsAll ds ts = (rest : List Symbol) → pass_all ts (skip_empty ts (kinds (yield_arguments ds ++ rest))) ≡ passed_nodes (argument_nodes (1 + length rest) ds) (kinds rest)
+LandsAll ds ts = (rest : List Symbol) → pass_all ts (skip_empty ts (kinds (yield_arguments [] ds ++ rest))) ≡ passed_nodes (argument_nodes (1 + length rest) ds) (kinds rest)
 
 -- after an argument and the token after it, the others are passed
-others_begin : (ds : Arguments) (ts : Trees) → Gives (build_all ds) ts → (rest : List Symbol) → drop 1 (kinds (yield_rest ds ++ rest)) ≡ skip_empty ts (kinds (yield_arguments ds ++ rest))
+others_begin : (ds : Arguments) (ts : Trees) → Gives (build_all ds) ts → (rest : List Symbol) → drop 1 (kinds (yield_rest ds ++ rest)) ≡ skip_empty ts (kinds (yield_arguments [] ds ++ rest))
 others_begin grammar.none ts g rest = sym (ap (λ us. skip_empty us (kinds (punct kind.RightParen ∷ rest))) (no_arguments ts g))
 others_begin (grammar.more d ds) ts g rest = sym (ap (λ us. skip_empty us (kinds ((yield d ++ yield_rest ds) ++ rest))) (more_arguments d ds ts g).is)
 
@@ -355,9 +356,9 @@ more_land d ds t ts g lands more rest =
 
 call_lands : (k : TokenKind) (text : Text) (ds : Arguments) (f : _) (ts : Trees) → may_be_called k ≡ true → LandsAll ds ts → Lands (grammar.call k text ds) (call f ts)
 call_lands k text ds f ts called more rest free still =
-    let args = kinds (yield_arguments ds ++ rest) in
-    let count = kinds_count (yield_arguments ds) rest in
-    let own = span_is sort.Name (length (k ∷ kind.LeftParen ∷ args)) (length (kind.LeftParen ∷ args)) 1 (1 + (length (yield_arguments ds) + length rest)) (omega arith) (omega arith) in
+    let args = kinds (yield_arguments [] ds ++ rest) in
+    let count = kinds_count (yield_arguments [] ds) rest in
+    let own = span_is sort.Name (length (k ∷ kind.LeftParen ∷ args)) (length (kind.LeftParen ∷ args)) 1 (1 + (length (yield_arguments [] ds) + length rest)) (omega arith) (omega arith) in
     ap (λ ks. then_pass (let r = step.word sort.Name ks in let q : Passed = (r.0, [], skip_empty ts (drop 1 r.1)) in q) (pass_all ts)) (if_false _ _ _ (called_no_sign k called))
     ∙ (λ i. (let x : Passed = more rest i in let q : Passed = (own i ∷ [], x.1, x.2) in q))
 
@@ -379,22 +380,22 @@ some_arguments absent e ks = refl
 some_arguments (present q) e ks = refl
 
 before_taken : (c : Clause) (ts : List Symbol) → IsClause c → step.clause (kinds (yield_before c ++ punct kind.LeftParen ∷ ts)) ≡ (spans (before_parts (length (punct kind.LeftParen ∷ ts)) c), kinds (punct kind.LeftParen ∷ ts))
-before_taken no_clause ts h = refl
-before_taken (before (grouping by t ls)) ts h = grouping_taken by t ls (punct kind.LeftParen ∷ ts) h
-before_taken (after g) ts h = refl
+before_taken None ts h = refl
+before_taken (Some (true, (by, t, ls))) ts h = grouping_taken by t ls (punct kind.LeftParen ∷ ts) h
+before_taken (Some (false, g)) ts h = refl
 
 after_taken : (c : Clause) (rest : List Symbol) → IsClause c → Free (kinds rest) → step.clause (kinds (yield_after c ++ rest)) ≡ (spans (after_parts (length rest) c), kinds rest)
-after_taken no_clause rest h free = if_false _ _ _ free.clause
-after_taken (before g) rest h free = if_false _ _ _ free.clause
-after_taken (after (grouping by t ls)) rest h free = grouping_taken by t ls rest h
+after_taken None rest h free = if_false _ _ _ free.clause
+after_taken (Some (true, g)) rest h free = if_false _ _ _ free.clause
+after_taken (Some (false, (by, t, ls))) rest h free = grouping_taken by t ls rest h
 
 -- the operator, and a clause after it
 aggregate_taken : (op : ℕ) (text : Text) (c : Clause) (ds : Arguments) (rest : List Symbol) → IsClause c
-    → step.aggregate (kinds (yield (grammar.aggregate op text c ds) ++ rest)) ≡ (let inner = 1 + (length (yield_arguments ds) + (length (yield_after c) + length rest)) in let q : Taken = (spans (piece sort.Operator 1 (length (yield_before c) + inner) ∷ before_parts inner c), kinds (yield_arguments ds ++ (yield_after c ++ rest))) in q)
+    → step.aggregate (kinds (yield (grammar.aggregate op text c ds) ++ rest)) ≡ (let inner = 1 + (length (yield_arguments [] ds) + (length (yield_after c) + length rest)) in let q : Taken = (spans (piece sort.Operator 1 (length (yield_before c) + inner) ∷ before_parts inner c), kinds (yield_arguments [] ds ++ (yield_after c ++ rest))) in q)
 aggregate_taken op text c ds rest formed =
-    let tail = yield_arguments ds ++ (yield_after c ++ rest) in
-    let inner = 1 + (length (yield_arguments ds) + (length (yield_after c) + length rest)) in
-    let one = length-append (yield_arguments ds) (yield_after c ++ rest) in
+    let tail = yield_arguments [] ds ++ (yield_after c ++ rest) in
+    let inner = 1 + (length (yield_arguments [] ds) + (length (yield_after c) + length rest)) in
+    let one = length-append (yield_arguments [] ds) (yield_after c ++ rest) in
     let two = length-append (yield_after c) rest in
     let length_is : length (punct kind.LeftParen ∷ tail) ≡ inner = omega arith in
     let count = kinds_count (yield_before c) (punct kind.LeftParen ∷ tail) in
@@ -403,20 +404,20 @@ aggregate_taken op text c ds rest formed =
     ∙ ap (λ (r : Taken). (let q : Taken = (r.0, drop 1 r.1) in q)) (first_is _ _ _ _ own (before_taken c tail formed ∙ ap (λ n. (let q : Taken = (spans (before_parts n c), kinds (punct kind.LeftParen ∷ tail)) in q)) length_is))
   where
     tokens : (c : Clause) (ds : Arguments) (rest : List Symbol)
-        → (yield_before c ++ punct kind.LeftParen ∷ (yield_arguments ds ++ yield_after c)) ++ rest ≡ yield_before c ++ punct kind.LeftParen ∷ (yield_arguments ds ++ (yield_after c ++ rest))
+        → (yield_before c ++ punct kind.LeftParen ∷ (yield_arguments [] ds ++ yield_after c)) ++ rest ≡ yield_before c ++ punct kind.LeftParen ∷ (yield_arguments [] ds ++ (yield_after c ++ rest))
     tokens c ds rest = simp append_assoc
 
 aggregate_lands : (op : ℕ) (text : Text) (c : Clause) (ds : Arguments) (e : Tree) (p : MaybeTree) (m : Option TreeClause) → IsClause c → LandsAll ds (arguments p e) → Lands (grammar.aggregate op text c ds) (aggregate op e p m)
 aggregate_lands op text c ds e p m formed more rest free still =
     let tail = yield_after c ++ rest in
-    let inner = 1 + (length (yield_arguments ds) + (length (yield_after c) + length rest)) in
+    let inner = 1 + (length (yield_arguments [] ds) + (length (yield_after c) + length rest)) in
     let own = piece sort.Operator 1 (length (yield_before c) + inner) in
     let ps = own ∷ before_parts inner c in
     let qs = after_parts (length rest) c in
     let subs = argument_nodes (1 + (length (yield_after c) + length rest)) ds in
     aggregate_inside op e p m (kinds (yield (grammar.aggregate op text c ds) ++ rest))
     ∙ ap (λ (r : Taken). then_take (then_pass (let q : Passed = (r.0, [], r.1) in q) (pass_all (arguments p e))) step.clause) (aggregate_taken op text c ds rest formed)
-    ∙ ap (λ ks. then_take (then_pass (let q : Passed = (spans ps, [], ks) in q) (pass_all (arguments p e))) step.clause) (sym (some_arguments p e (kinds (yield_arguments ds ++ tail))))
+    ∙ ap (λ ks. then_take (then_pass (let q : Passed = (spans ps, [], ks) in q) (pass_all (arguments p e))) step.clause) (sym (some_arguments p e (kinds (yield_arguments [] ds ++ tail))))
     ∙ ap (λ (x : Passed). then_take (let q : Passed = (spans ps, x.1, x.2) in q) step.clause) (more tail)
     ∙ ap (λ n. then_take (let q : Passed = (spans ps, counts (argument_nodes (1 + n) ds), kinds tail) in q) step.clause) (length-append (yield_after c) rest)
     ∙ ap (λ (r : Taken). (let q : Passed = (spans ps ++ r.0, counts subs, r.1) in q)) (after_taken c rest formed free)
@@ -482,7 +483,7 @@ open_more (punct k ∷ ts) us b h = tt
 open_more (word k t ∷ ts) us b h = tt
 
 fits_more : (m : Matching) (f : Fills) (ts us : List Symbol) → begins ts ≡ true → FitsMatching m f ts → FitsMatching m f (ts ++ us)
-fits_more (matching on t ls (bare left u)) no_fill ts us b h = open_more ts us b h
+fits_more (Some (on, t, ls, (Some (left, u, None)))) no_fill ts us b h = open_more ts us b h
 fits_more m f ts us b h = tt
 
 -- a left side of a power has no sign outside
@@ -504,13 +505,13 @@ power_signs op d rest formed fits = by (op == T_POW) refl
     by false is = refl
 
 abbrev operator_parts : ℕ → part.Modifier → List PartTokens
-operator_parts n m = piece sort.Operator 1 (length (yield_modifier m) + n) ∷ matching_parts (length (yield_fills m.fills) + n) m.matching
+operator_parts n m = piece sort.Operator 1 (length (yield_modifier m) + n) ∷ matching_parts (length (yield_fills m.2) + n) m.1
 
-after_operator : (m : part.Modifier) (r : Derivation) (op : ℕ) (t : Text) (rest : List Symbol) → IsMatching m.matching → IsWellFormed r → FitsMatching m.matching m.fills (yield r)
+after_operator : (m : part.Modifier) (r : Derivation) (op : ℕ) (t : Text) (rest : List Symbol) → IsMatching m.1 → IsWellFormed r → FitsMatching m.1 m.2 (yield r)
     → step.operator (kinds (word (kind.Operator op) t ∷ (yield_modifier m ++ (yield r ++ rest)))) ≡ (spans (parts (length rest) (grammar.binary op t m r r)), kinds (yield r ++ rest))
 after_operator m r op t rest is formed fits =
     let begun : begins (yield r) ≡ true = ap begins (sym (append-nil (yield r))) ∙ begins_here r [] formed in
-    operator_taken m op t (yield r ++ rest) is (begins_here r rest formed) (no_paren_word r rest formed) (fits_more m.matching m.fills (yield r) rest begun fits)
+    operator_taken m op t (yield r ++ rest) is (begins_here r rest formed) (no_paren_word r rest formed) (fits_more m.1 m.2 (yield r) rest begun fits)
     ∙ ap (λ n. (let q : Taken = (spans (operator_parts n m), kinds (yield r ++ rest)) in q)) (length-append (yield r) rest)
 
 binary_lands : (op : ℕ) (t : Text) (m : part.Modifier) (l r : Derivation) (x y : Tree) (z : _) → IsWellFormed (grammar.binary op t m l r) → Lands l x → Lands r y → Lands (grammar.binary op t m l r) (binary op x y z)

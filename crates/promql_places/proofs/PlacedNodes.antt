@@ -93,13 +93,13 @@ pub places_are : (s : Text) (subs : List Subexpression) → AllByRecursion (Lies
 places_are s [] all = refl
 places_are s (sub ∷ subs) all =
     let lies = all.0 in
-    λ i. tokens_are s (length (yield sub.derivation)) sub.after lies.some lies.begins i ∷ places_are s subs all.1 i
+    λ i. tokens_are s (length (yield sub.1)) sub.0 lies.some lies.begins i ∷ places_are s subs all.1 i
 
 -- from the first of its tokens through the last
 abbrev part_at : Text → PartTokens → Part
 part_at s p = record { kind = p.kind; span = span_over s (tokens_at s p.count p.after) }
 
-parts_are : (s : Text) (sub : Subexpression) (ps : List PartTokens) → length (yield sub.derivation) + sub.after ≤ length (placed_tokens s) → AllByRecursion (LiesBetween sub.after (length (yield sub.derivation) + sub.after)) ps → map (part_in s) (spans ps) ≡ map (part_at s) ps
+parts_are : (s : Text) (sub : Subexpression) (ps : List PartTokens) → length (yield sub.1) + sub.0 ≤ length (placed_tokens s) → AllByRecursion (LiesBetween sub.0 (length (yield sub.1) + sub.0)) ps → map (part_in s) (spans ps) ≡ map (part_at s) ps
 parts_are s sub [] fits all = refl
 parts_are s sub (p ∷ ps) fits all =
     let lies = all.0 in
@@ -112,4 +112,4 @@ pub lists_are : (s : Text) (subs : List Subexpression) → AllByRecursion (LiesW
 lists_are s [] all = refl
 lists_are s (sub ∷ subs) all =
     let lies = all.0 in
-    λ i. parts_are s sub (parts sub.after sub.derivation) lies.begins ((parts_fit sub.derivation sub.after).lie) i ∷ lists_are s subs all.1 i
+    λ i. parts_are s sub (parts sub.0 sub.1) lies.begins ((parts_fit sub.1 sub.0).lie) i ∷ lists_are s subs all.1 i

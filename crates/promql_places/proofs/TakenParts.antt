@@ -8,8 +8,8 @@ use Rattle.promql_grammar.specs.declared.token_kinds.TokenKind.{TokenKind}
 use Rattle.promql_grammar.specs.declared.token_kinds.TokenKind.TheVariants as kind
 use Rattle.promql_grammar.specs.Symbols.{Symbol, punct, word, begins, may_be_label}
 use Rattle.promql_grammar.specs.Grammar.{OpensNoParen, FitsMatching}
-use Rattle.promql_grammar.specs.GrammarParts.{Time, seconds, duration, Signed, unsigned, signed, Labels, no_label, last, next, grouping, Group, no_group, bare, listed, Matching, no_matching, matching, FillValue, Fills, no_fill, both, one, two, Modifier, MatchOperator, equal, not_equal, equal_regex, not_equal_regex, Item, matcher, lone, Separator, comma, or, Items, last_item, last_item_comma, next_item, Braces, no_item, items, Postfix, range, subquery, at_number, at_bound, offset, mode, yield_time, yield_signed, yield_names, yield_labels, yield_grouping, yield_group, yield_matching, yield_value, yield_fills, yield_modifier, yield_match_operator, yield_item, yield_items, yield_separator, yield_braces, yield_any_braces, yield_postfix, IsLabels, IsGroup, IsMatching}
-use Rattle.promql_grammar.specs.PartTokens.{yield_flag, yield_step}
+use Rattle.promql_grammar.specs.GrammarParts.{Time, seconds, duration, Signed, Labels, no_label, last, next, Group, Matching, FillValue, Fills, no_fill, both, one, two, Modifier, MatchOperator, equal, not_equal, equal_regex, not_equal_regex, Item, matcher, lone, Separator, Items, last_item, next_item, Braces, Postfix, range, subquery, at_number, at_bound, offset, mode, yield_time, yield_signed, yield_names, yield_labels, yield_grouping, yield_group, yield_matching, yield_value, yield_fills, yield_modifier, yield_match_operator, yield_item, yield_items, yield_separator, yield_braces, yield_postfix, IsLabels, IsMatching}
+use Rattle.promql_grammar.specs.PartTokens.{yield_flag, yield_step, yield_any_braces, IsGroup}
 use Rattle.promql_grammar.proofs.GrammarChoices.{if_false}
 use Rattle.promql_places.specs.NodeParts.{PartTokens, group_parts, item_parts, label_parts, matcher_parts, matching_parts, piece, postfix_kind}
 use Rattle.promql_places.specs.PartSteps as step
@@ -76,17 +76,17 @@ item_inside (matcher false t s value) p rest = operator_inside s p _ value rest
 item_inside (lone t) p rest = refl
 
 separator_ends : (s : Separator) (p : PartKind) (n : ℕ) (rest : List Symbol) → step.in_item p n (kinds (yield_separator s ∷ rest)) ≡ also (p, (n, length (kinds (yield_separator s ∷ rest)))) (step.items p (kinds rest))
-separator_ends comma p n rest = refl
-separator_ends (or t) p n rest = refl
+separator_ends None p n rest = refl
+separator_ends (Some t) p n rest = refl
 
 items_taken : (is : Items) (rest : List Symbol) → step.items part.Matcher (kinds (yield_items is ++ rest)) ≡ (spans (item_parts (length rest) is), kinds rest)
-items_taken (last_item i) rest =
+items_taken (last_item i false) rest =
     let n = kinds_count (yield_item i) (punct kind.RightBrace ∷ rest) in
     let m = kinds_length rest in
     ap (λ ts. step.items part.Matcher (kinds ts)) (append_assoc (yield_item i) (punct kind.RightBrace ∷ []) rest)
     ∙ item_inside i part.Matcher (punct kind.RightBrace ∷ rest)
     ∙ ap (λ (x : PartSpan). (x ∷ [], kinds rest)) (span_is part.Matcher _ _ (length (yield_item i)) (1 + length rest) (omega arith) (omega arith))
-items_taken (last_item_comma i) rest =
+items_taken (last_item i true) rest =
     let n = kinds_count (yield_item i) (punct kind.Comma ∷ punct kind.RightBrace ∷ rest) in
     let m = kinds_length rest in
     ap (λ ts. step.items part.Matcher (kinds ts)) (append_assoc (yield_item i) (punct kind.Comma ∷ punct kind.RightBrace ∷ []) rest)
@@ -102,8 +102,8 @@ items_taken (next_item i s is) rest =
     ∙ first_is _ _ _ _ (span_is part.Matcher _ _ (length (yield_item i)) (1 + (length (yield_items is) + length rest)) (omega arith) (omega arith)) (items_taken is rest)
 
 pub braces_taken : (b : Braces) (rest : List Symbol) → step.braces (kinds (yield_braces b ++ rest)) ≡ (spans (matcher_parts (length rest) b), kinds rest)
-braces_taken no_item rest = refl
-braces_taken (items is) rest = items_taken is rest
+braces_taken None rest = refl
+braces_taken (Some is) rest = items_taken is rest
 
 -- none, where no brace follows
 pub any_braces_taken : (b : Option Braces) (rest : List Symbol) → is_left_brace (front (kinds rest)) ≡ false
@@ -114,13 +114,13 @@ any_braces_taken (Some b) rest free = braces_taken b rest
 -- ---- through a closing bracket
 
 sign_skipped : (s : Signed) (rest : List Symbol) → skip_brackets (kinds (yield_signed s ++ rest)) ≡ skip_brackets (kinds rest)
-sign_skipped unsigned rest = refl
-sign_skipped (signed minus t) rest = refl
+sign_skipped None rest = refl
+sign_skipped (Some (minus, t)) rest = refl
 
 pub value_skipped : (v : FillValue) (rest : List Symbol) → skip_brackets (kinds (yield_value v ++ rest)) ≡ kinds rest
 value_skipped v rest =
-    ap (λ ts. skip_brackets (kinds ts)) (append_assoc (yield_signed v.sign) (word kind.Number v.number ∷ punct kind.RightParen ∷ []) rest)
-    ∙ sign_skipped v.sign (word kind.Number v.number ∷ punct kind.RightParen ∷ rest)
+    ap (λ ts. skip_brackets (kinds ts)) (append_assoc (yield_signed v.0) (word kind.Number v.1 ∷ punct kind.RightParen ∷ []) rest)
+    ∙ sign_skipped v.0 (word kind.Number v.1 ∷ punct kind.RightParen ∷ rest)
 
 time_skipped : (t : Time) (rest : List Symbol) → skip_brackets (kinds (yield_time t ++ rest)) ≡ skip_brackets (kinds rest)
 time_skipped (seconds t) rest = refl
@@ -142,7 +142,7 @@ subquery_skipped t s rest =
 
 -- ---- clauses
 
-pub grouping_taken : (by : Bool) (t : Text) (ls : Labels) (rest : List Symbol) → IsLabels ls → step.clause (kinds (yield_grouping (grouping by t ls) ++ rest)) ≡ (spans (label_parts part.Label (length rest) ls), kinds rest)
+pub grouping_taken : (by : Bool) (t : Text) (ls : Labels) (rest : List Symbol) → IsLabels ls → step.clause (kinds (yield_grouping (by, t, ls) ++ rest)) ≡ (spans (label_parts part.Label (length rest) ls), kinds rest)
 grouping_taken true t ls rest h = labels_taken part.Label ls rest h
 grouping_taken false t ls rest h = labels_taken part.Label ls rest h
 
@@ -231,14 +231,14 @@ no_labels_at p (word k t ∷ ts) w h = refl
 
 -- what a grouping word without labels asks of the tokens after the fills
 abbrev FitsGroup : Group → Fills → List Symbol → Type 0
-FitsGroup (bare left t) no_fill rest = OpensNoParen rest
+FitsGroup (Some (left, t, None)) no_fill rest = OpensNoParen rest
 FitsGroup g f rest = Unit {0}
 
-fits_group : (on : Bool) (t : Text) (ls : Labels) (g : Group) (f : Fills) (rest : List Symbol) → FitsMatching (matching on t ls g) f rest → FitsGroup g f rest
-fits_group on t ls (bare left u) no_fill rest h = h
+fits_group : (on : Bool) (t : Text) (ls : Labels) (g : Group) (f : Fills) (rest : List Symbol) → FitsMatching (Some (on, t, ls, g)) f rest → FitsGroup g f rest
+fits_group on t ls (Some (left, u, None)) no_fill rest h = h
 fits_group on t ls g f rest h = tt
 
-bare_fills : (p : PartKind) (left : Bool) (t : Text) (f : Fills) (rest : List Symbol) → HasNoParenWord rest → FitsGroup (bare left t) f rest → step.labels p (kinds (yield_fills f ++ rest)) ≡ ([], kinds (yield_fills f ++ rest))
+bare_fills : (p : PartKind) (left : Bool) (t : Text) (f : Fills) (rest : List Symbol) → HasNoParenWord rest → FitsGroup (Some (left, t, None)) f rest → step.labels p (kinds (yield_fills f ++ rest)) ≡ ([], kinds (yield_fills f ++ rest))
 bare_fills p left t no_fill rest b h = no_labels_at p rest b h
 bare_fills p left t (both u v) rest b h = refl
 bare_fills p left t (one true u v) rest b h = refl
@@ -248,11 +248,11 @@ bare_fills p left t (two false u v u' w) rest b h = refl
 
 group_taken : (g : Group) (f : Fills) (rest : List Symbol) → IsGroup g → begins rest ≡ true → HasNoParenWord rest → FitsGroup g f rest
     → step.group (kinds (yield_group g ++ (yield_fills f ++ rest))) ≡ (spans (group_parts (length (yield_fills f ++ rest)) g), kinds (yield_fills f ++ rest))
-group_taken no_group f rest h b p k = fills_no_group f rest b
-group_taken (bare true t) f rest h b p k = bare_fills part.GroupLabel true t f rest p k
-group_taken (bare false t) f rest h b p k = bare_fills part.GroupLabel false t f rest p k
-group_taken (listed true t ls) f rest h b p k = labels_taken part.GroupLabel ls (yield_fills f ++ rest) h
-group_taken (listed false t ls) f rest h b p k = labels_taken part.GroupLabel ls (yield_fills f ++ rest) h
+group_taken None f rest h b p k = fills_no_group f rest b
+group_taken (Some (true, t, None)) f rest h b p k = bare_fills part.GroupLabel true t f rest p k
+group_taken (Some (false, t, None)) f rest h b p k = bare_fills part.GroupLabel false t f rest p k
+group_taken (Some (true, t, Some ls)) f rest h b p k = labels_taken part.GroupLabel ls (yield_fills f ++ rest) h
+group_taken (Some (false, t, Some ls)) f rest h b p k = labels_taken part.GroupLabel ls (yield_fills f ++ rest) h
 
 -- a matching word is taken with what follows it
 matching_word : (on : Bool) (t : Text) (ts : List Symbol) → step.matching (kinds (word (if on then kind.On else kind.Ignoring) t ∷ ts)) ≡ and_then (step.labels part.Label (kinds ts)) step.group
@@ -261,8 +261,8 @@ matching_word false t ts = refl
 
 matching_taken : (m : Matching) (f : Fills) (rest : List Symbol) → IsMatching m → begins rest ≡ true → HasNoParenWord rest → FitsMatching m f rest
     → step.matching (kinds (yield_matching m ++ (yield_fills f ++ rest))) ≡ (spans (matching_parts (length (yield_fills f ++ rest)) m), kinds (yield_fills f ++ rest))
-matching_taken no_matching f rest h b p k = fills_no_matching f rest b
-matching_taken (matching on t ls g) f rest h b p k =
+matching_taken None f rest h b p k = fills_no_matching f rest b
+matching_taken (Some (on, t, ls, g)) f rest h b p k =
     let after = yield_fills f ++ rest in
     matching_word on t ((yield_labels ls ++ yield_group g) ++ after)
     ∙ ap (λ ts. and_then (step.labels part.Label (kinds ts)) step.group) (append_assoc (yield_labels ls) (yield_group g) after)
@@ -280,9 +280,9 @@ no_flag_fills (two true t v u w) rest b = refl
 no_flag_fills (two false t v u w) rest b = refl
 
 no_flag_matching : (m : Matching) (f : Fills) (rest : List Symbol) → begins rest ≡ true → skip_flag (kinds (yield_matching m ++ (yield_fills f ++ rest))) ≡ kinds (yield_matching m ++ (yield_fills f ++ rest))
-no_flag_matching no_matching f rest b = no_flag_fills f rest b
-no_flag_matching (matching true t ls g) f rest b = refl
-no_flag_matching (matching false t ls g) f rest b = refl
+no_flag_matching None f rest b = no_flag_fills f rest b
+no_flag_matching (Some (true, t, ls, g)) f rest b = refl
+no_flag_matching (Some (false, t, ls, g)) f rest b = refl
 
 flag_skipped : (flag : Option Text) (m : Matching) (f : Fills) (rest : List Symbol) → begins rest ≡ true → skip_flag (kinds (yield_flag flag ++ (yield_matching m ++ (yield_fills f ++ rest)))) ≡ kinds (yield_matching m ++ (yield_fills f ++ rest))
 flag_skipped None m f rest b = no_flag_matching m f rest b
@@ -291,28 +291,28 @@ flag_skipped (Some t) m f rest b = refl
 modifier_parts : (flag : Option Text) (m : Matching) (f : Fills) (rest : List Symbol) → (yield_flag flag ++ (yield_matching m ++ yield_fills f)) ++ rest ≡ yield_flag flag ++ (yield_matching m ++ (yield_fills f ++ rest))
 modifier_parts flag m f rest = simp append_assoc
 
-pub operator_taken : (m : Modifier) (op : ℕ) (t : Text) (rest : List Symbol) → IsMatching m.matching → begins rest ≡ true → HasNoParenWord rest → FitsMatching m.matching m.fills rest
-    → step.operator (kinds (word (kind.Operator op) t ∷ (yield_modifier m ++ rest))) ≡ (spans (piece part.Operator 1 (length (yield_modifier m) + length rest) ∷ matching_parts (length (yield_fills m.fills) + length rest) m.matching), kinds rest)
+pub operator_taken : (m : Modifier) (op : ℕ) (t : Text) (rest : List Symbol) → IsMatching m.1 → begins rest ≡ true → HasNoParenWord rest → FitsMatching m.1 m.2 rest
+    → step.operator (kinds (word (kind.Operator op) t ∷ (yield_modifier m ++ rest))) ≡ (spans (piece part.Operator 1 (length (yield_modifier m) + length rest) ∷ matching_parts (length (yield_fills m.2) + length rest) m.1), kinds rest)
 operator_taken m op t rest h b p k =
     let n = kinds_count (yield_modifier m) rest in
     let own = span_is part.Operator (length (kinds (word (kind.Operator op) t ∷ (yield_modifier m ++ rest)))) (length (kinds (yield_modifier m ++ rest))) 1 (length (yield_modifier m) + length rest) (omega arith) (omega arith) in
     first_is _ _ _ _ own (filled m rest h b p k)
   where
-    filled : (m : Modifier) (rest : List Symbol) → IsMatching m.matching → begins rest ≡ true → HasNoParenWord rest → FitsMatching m.matching m.fills rest
-        → (let r = step.matching (skip_flag (kinds (yield_modifier m ++ rest))) in let q : Taken = (r.0, skip_fill (skip_fill r.1)) in q) ≡ (spans (matching_parts (length (yield_fills m.fills) + length rest) m.matching), kinds rest)
+    filled : (m : Modifier) (rest : List Symbol) → IsMatching m.1 → begins rest ≡ true → HasNoParenWord rest → FitsMatching m.1 m.2 rest
+        → (let r = step.matching (skip_flag (kinds (yield_modifier m ++ rest))) in let q : Taken = (r.0, skip_fill (skip_fill r.1)) in q) ≡ (spans (matching_parts (length (yield_fills m.2) + length rest) m.1), kinds rest)
     filled m rest h b p k =
-        ap (λ ts. (let r = step.matching (skip_flag (kinds ts)) in let q : Taken = (r.0, skip_fill (skip_fill r.1)) in q)) (modifier_parts m.flag m.matching m.fills rest)
-        ∙ ap (λ ks. (let r = step.matching ks in let q : Taken = (r.0, skip_fill (skip_fill r.1)) in q)) (flag_skipped m.flag m.matching m.fills rest b)
-        ∙ ap (λ (r : Taken). (let q : Taken = (r.0, skip_fill (skip_fill r.1)) in q)) (matching_taken m.matching m.fills rest h b p k)
-        ∙ ap (λ n. (let q : Taken = (spans (matching_parts n m.matching), skip_fill (skip_fill (kinds (yield_fills m.fills ++ rest)))) in q)) (length-append (yield_fills m.fills) rest)
-        ∙ ap (λ ks. (let q : Taken = (spans (matching_parts (length (yield_fills m.fills) + length rest) m.matching), ks) in q)) (fills_skipped m.fills rest b)
+        ap (λ ts. (let r = step.matching (skip_flag (kinds ts)) in let q : Taken = (r.0, skip_fill (skip_fill r.1)) in q)) (modifier_parts m.0 m.1 m.2 rest)
+        ∙ ap (λ ks. (let r = step.matching ks in let q : Taken = (r.0, skip_fill (skip_fill r.1)) in q)) (flag_skipped m.0 m.1 m.2 rest b)
+        ∙ ap (λ (r : Taken). (let q : Taken = (r.0, skip_fill (skip_fill r.1)) in q)) (matching_taken m.1 m.2 rest h b p k)
+        ∙ ap (λ n. (let q : Taken = (spans (matching_parts n m.1), skip_fill (skip_fill (kinds (yield_fills m.2 ++ rest)))) in q)) (length-append (yield_fills m.2) rest)
+        ∙ ap (λ ks. (let q : Taken = (spans (matching_parts (length (yield_fills m.2) + length rest) m.1), ks) in q)) (fills_skipped m.2 rest b)
 
 -- ---- postfixes that leave no node
 
 value_signed : (s : Signed) (p : PartKind) (n : ℕ) (rest : List Symbol) → step.shift_value p n (kinds (yield_signed s ++ rest)) ≡ step.shift_value p n (kinds rest)
-value_signed unsigned p n rest = refl
-value_signed (signed true t) p n rest = refl
-value_signed (signed false t) p n rest = refl
+value_signed None p n rest = refl
+value_signed (Some (true, t)) p n rest = refl
+value_signed (Some (false, t)) p n rest = refl
 
 value_time : (t : Time) (p : PartKind) (n : ℕ) (rest : List Symbol) → step.shift_value p n (kinds (yield_time t ++ rest)) ≡ also (p, (n, length (kinds rest))) (step.shifts (kinds rest))
 value_time (seconds t) p n rest = refl

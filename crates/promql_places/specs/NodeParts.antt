@@ -1,10 +1,10 @@
 -- Where the parts of nodes are in a text (docs/reference/walks.md, "Parts of nodes").
-use Rattle.std.specs.Prelude.{◌≡◌, ◌⊎◌, ℕ, ◌+◌, ◌≤◌, if◌then◌else◌, List, [], ◌∷◌, ◌++◌, length, map}
+use Rattle.std.specs.Prelude.{◌≡◌, ◌⊎◌, ℕ, ◌+◌, ◌≤◌, if◌then◌else◌, List, [], ◌∷◌, ◌++◌, length, map, Some, None, true, false}
 use Rattle.std.specs.Option.{option_map_or}
 use Rattle.promql_text.specs.Texts.{Text}
 use Rattle.promql_grammar.specs.Grammar as grammar
 use Rattle.promql_grammar.specs.Grammar.{Derivation, yield, yield_arguments}
-use Rattle.promql_grammar.specs.GrammarParts.{Labels, no_label, last, next, grouping, Clause, before, after, Group, listed, Matching, no_matching, matching, Items, last_item, last_item_comma, next_item, Braces, no_item, items, Postfix, range, subquery, offset, mode, yield_names, yield_before, yield_after, yield_group, yield_fills, yield_modifier, yield_item, yield_items, yield_any_braces, yield_postfix}
+use Rattle.promql_grammar.specs.GrammarParts.{Labels, no_label, last, next, Clause, Group, Matching, Items, last_item, next_item, Braces, Postfix, range, subquery, offset, mode, yield_names, yield_braces, yield_before, yield_after, yield_group, yield_fills, yield_modifier, yield_item, yield_items, yield_postfix}
 use Rattle.promql_ast.specs.Tree.{Tree}
 use Rattle.promql_syntax.specs.FaultTokens.{Subexpression}
 use Rattle.promql_syntax.specs.ParseAnswers.{Derives}
@@ -33,28 +33,28 @@ label_parts p k (next w text ls) = piece p 1 (1 + (length (yield_names ls) + k))
 
 -- the clause of an aggregation, which n tokens come after where it is before the arguments
 abbrev pub clause_parts : ℕ → ℕ → Clause → List PartTokens
-clause_parts n k (before (grouping by text ls)) = label_parts kind.Label n ls
-clause_parts n k (after (grouping by text ls)) = label_parts kind.Label k ls
+clause_parts n k (Some (true, (by, text, ls))) = label_parts kind.Label n ls
+clause_parts n k (Some (false, (by, text, ls))) = label_parts kind.Label k ls
 clause_parts n k c = []
 
 -- the modifier of an operator
 abbrev pub group_parts : ℕ → Group → List PartTokens
-group_parts k (listed w text ls) = label_parts kind.GroupLabel k ls
+group_parts k (Some (w, text, Some ls)) = label_parts kind.GroupLabel k ls
 group_parts k g = []
 
 abbrev pub matching_parts : ℕ → Matching → List PartTokens
-matching_parts k no_matching = []
-matching_parts k (matching w text ls g) = label_parts kind.Label (length (yield_group g) + k) ls ++ group_parts k g
+matching_parts k None = []
+matching_parts k (Some (w, text, ls, g)) = label_parts kind.Label (length (yield_group g) + k) ls ++ group_parts k g
 
 -- matchers in braces
 abbrev pub item_parts : ℕ → Items → List PartTokens
-item_parts k (last_item i) = piece kind.Matcher (length (yield_item i)) (1 + k) ∷ []
-item_parts k (last_item_comma i) = piece kind.Matcher (length (yield_item i)) (2 + k) ∷ []
+item_parts k (last_item i false) = piece kind.Matcher (length (yield_item i)) (1 + k) ∷ []
+item_parts k (last_item i true) = piece kind.Matcher (length (yield_item i)) (2 + k) ∷ []
 item_parts k (next_item i s is) = piece kind.Matcher (length (yield_item i)) (1 + (length (yield_items is) + k)) ∷ item_parts k is
 
 abbrev pub matcher_parts : ℕ → Braces → List PartTokens
-matcher_parts k no_item = []
-matcher_parts k (items is) = item_parts k is
+matcher_parts k None = []
+matcher_parts k (Some is) = item_parts k is
 
 abbrev pub postfix_kind : Postfix → PartKind
 postfix_kind (range t) = kind.Range
@@ -71,11 +71,11 @@ base_parts p whole ps = ps
 
 -- those of an expression, but of its nodes below, in the order in which they end
 abbrev pub parts : ℕ → Derivation → List PartTokens
-parts k (grammar.selector w text b) = piece kind.Name 1 (length (yield_any_braces b) + k) ∷ option_map_or (matcher_parts k) b []
+parts k (grammar.selector w text b) = piece kind.Name 1 (length (option_map_or yield_braces b []) + k) ∷ option_map_or (matcher_parts k) b []
 parts k (grammar.nameless b) = matcher_parts k b
-parts k (grammar.call w text ds) = piece kind.Name 1 (1 + (length (yield_arguments ds) + k)) ∷ []
+parts k (grammar.call w text ds) = piece kind.Name 1 (1 + (length (yield_arguments [] ds) + k)) ∷ []
 parts k (grammar.aggregate op text c ds) =
-    let inner = 1 + (length (yield_arguments ds) + (length (yield_after c) + k)) in
+    let inner = 1 + (length (yield_arguments [] ds) + (length (yield_after c) + k)) in
     piece kind.Operator 1 (length (yield_before c) + inner) ∷ clause_parts inner k c
 parts k (grammar.postfixed d p) =
     let after = length (yield_postfix p) + k in
@@ -83,14 +83,14 @@ parts k (grammar.postfixed d p) =
 parts k (grammar.unary op text d) = if has_node op d then piece kind.Operator 1 (length (yield d) + k) ∷ [] else parts k d
 parts k (grammar.binary op text m l r) =
     let after = length (yield r) + k in
-    piece kind.Operator 1 (length (yield_modifier m) + after) ∷ matching_parts (length (yield_fills m.fills) + after) m.matching
+    piece kind.Operator 1 (length (yield_modifier m) + after) ∷ matching_parts (length (yield_fills m.2) + after) m.1
 parts k d = []
 
 -- ---- their places
 
 -- from the first of its tokens through the last
 abbrev pub parts_of : Text → Subexpression → List Part
-parts_of s sub = map (λ p. record { kind = p.kind; span = span_over s (tokens_at s p.count p.after) }) (parts sub.after sub.derivation)
+parts_of s sub = map (λ p. record { kind = p.kind; span = span_over s (tokens_at s p.count p.after) }) (parts sub.0 sub.1)
 
 -- the parts of the nodes of a text's tree: those of the expressions that build them
 pub record AreParts (s : Text) (t : Tree) (lists : List (List Part)) : Type 0 where

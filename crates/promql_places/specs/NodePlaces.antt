@@ -12,7 +12,7 @@ use Rattle.promql_ast.specs.Fold.{folded}
 use Rattle.promql_ast.specs.Tree.{Tree}
 use Rattle.promql_syntax.specs.Asking.{EndsIn}
 use Rattle.promql_syntax.specs.Building.{build}
-use Rattle.promql_syntax.specs.FaultTokens.{Subexpression, here, rest_count}
+use Rattle.promql_syntax.specs.FaultTokens.{Subexpression, rest_count}
 use Rattle.promql_syntax.specs.ParseAnswers.{Derives}
 use Rattle.promql_span.specs.PlacedTokens.{last_tokens, placed_tokens}
 use Rattle.promql_span.specs.TokenSpans.{span_over}
@@ -33,26 +33,26 @@ abbrev mutual
   -- the nodes below that of an expression which k tokens come after, each before those below it. What has no node of its
   -- own, a sign or a postfix other than a subquery, belongs to the node of what it changes.
   pub nodes_below : ℕ → Derivation → List Subexpression
-  nodes_below k (grammar.paren d) = here (1 + k) d ∷ nodes_below (1 + k) d
+  nodes_below k (grammar.paren d) = ((1 + k), d) ∷ nodes_below (1 + k) d
   nodes_below k (grammar.call w text ds) = argument_nodes (1 + k) ds
   nodes_below k (grammar.aggregate op text c ds) = argument_nodes (1 + (length (yield_after c) + k)) ds
   nodes_below k (grammar.postfixed d (part.subquery t s)) =
-      let after = length (yield_postfix (part.subquery t s)) + k in here after d ∷ nodes_below after d
+      let after = length (yield_postfix (part.subquery t s)) + k in (after, d) ∷ nodes_below after d
   nodes_below k (grammar.postfixed d p) = nodes_below (length (yield_postfix p) + k) d
-  nodes_below k (grammar.unary op text d) = if has_node op d then here k d ∷ nodes_below k d else nodes_below k d
+  nodes_below k (grammar.unary op text d) = if has_node op d then (k, d) ∷ nodes_below k d else nodes_below k d
   nodes_below k (grammar.binary op text m l r) =
       let after = 1 + (length (yield_modifier m) + (length (yield r) + k)) in
-      here after l ∷ (nodes_below after l ++ here k r ∷ nodes_below k r)
+      (after, l) ∷ (nodes_below after l ++ (k, r) ∷ nodes_below k r)
   nodes_below k d = []
 
   -- those of arguments that k tokens come after
   pub argument_nodes : ℕ → Arguments → List Subexpression
   argument_nodes k grammar.none = []
-  argument_nodes k (grammar.more d ds) = here (rest_count ds + k) d ∷ (nodes_below (rest_count ds + k) d ++ argument_nodes k ds)
+  argument_nodes k (grammar.more d ds) = ((rest_count ds + k), d) ∷ (nodes_below (rest_count ds + k) d ++ argument_nodes k ds)
 
 -- the nodes of an expression
 abbrev pub nodes : ℕ → Derivation → List Subexpression
-nodes k d = here k d ∷ nodes_below k d
+nodes k d = (k, d) ∷ nodes_below k d
 
 -- ---- the nodes of a tree
 
@@ -62,7 +62,7 @@ tree_nodes = folded [] ◌++◌ ◌∷◌
 
 -- each of the expressions builds its node
 abbrev pub BuildEach : List Subexpression → List Tree → Type 0
-BuildEach = AllZip (λ sub t. EndsIn (build sub.derivation) (Ok t))
+BuildEach = AllZip (λ sub t. EndsIn (build sub.1) (Ok t))
 
 -- ---- their places
 
@@ -72,7 +72,7 @@ tokens_at s count after = take count (last_tokens (count + after) (placed_tokens
 
 -- from the first token of an expression through the last
 abbrev pub place_of : Text → Subexpression → Span
-place_of s sub = span_over s (tokens_at s (length (yield sub.derivation)) sub.after)
+place_of s sub = span_over s (tokens_at s (length (yield sub.1)) sub.0)
 
 -- the places of the nodes of a text's tree: those of the expressions that build them
 pub record ArePlaces (s : Text) (t : Tree) (places : List Span) : Type 0 where
@@ -91,9 +91,9 @@ pub record LieWithin (k n count after : ℕ) : Type 0 where
 
 -- an expression has such tokens
 abbrev pub LiesWithin : ℕ → ℕ → Subexpression → Type 0
-LiesWithin k n sub = LieWithin k n (length (yield sub.derivation)) sub.after
+LiesWithin k n sub = LieWithin k n (length (yield sub.1)) sub.0
 
 -- the second of two expressions lies within the first, or begins after it
 abbrev pub IsNested : Subexpression → Subexpression → Type 0
 IsNested a b =
-    LiesWithin a.after (length (yield a.derivation) + a.after) b ⊎ (length (yield b.derivation) + b.after ≤ a.after)
+    LiesWithin a.0 (length (yield a.1) + a.0) b ⊎ (length (yield b.1) + b.0 ≤ a.0)

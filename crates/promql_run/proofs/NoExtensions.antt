@@ -26,11 +26,12 @@ use Rattle.promql_ast.specs.declared.range_mode.RangeMode.{RangeMode}
 use Rattle.promql_ast.specs.declared.range_mode.RangeMode.TheVariants.{Plain, Smoothed, Anchored}
 use Rattle.promql_syntax.specs.ParseAnswers.{IsAnswerTo}
 use Rattle.promql_syntax.specs.Asking.{Asking, gives, fails, asks, ◌giving◌, known, Asked, Ends}
-use Rattle.promql_syntax.specs.Building.{build, build_all, from_verdict, from_checked_verdict, build_call, build_postfix}
+use Rattle.promql_syntax.specs.Building.{build, build_all, from_verdict, from_checked_verdict, build_postfix}
 use Rattle.promql_syntax.specs.Postfixes.{bound_moment, range_mode}
-use Rattle.promql_syntax.specs.PartBuilding.{string_value, number_value, duration_value, time_value, step_value, shift_value, moment_value, clause_value, modifier_value, braces_value}
+use Rattle.promql_syntax.specs.PartBuilding.{string_value, number_value, duration_value, time_value, shift_value, moment_value, modifier_value, braces_value}
 use Rattle.promql_syntax.specs.Atoms.{any_braces_value}
 use Rattle.promql_run.specs.Extensions.{HasNoExtension, NoneInEach}
+use Rattle.promql_syntax.specs.PartWords.{build_call, step_value, clause_value}
 
 -- whatever `regex` answers, what is given in the end is one of these
 abbrev EachGives : {A : Type 0} → (A → Type 0) → Asking A → Type 0

@@ -61,9 +61,9 @@ module _ (law : TokensArePlaced) (s : Text) (list : List Token) (is : tokens s �
 -- tokens that do not fit are the last ones
 dropped_rest : (ts rest : List Symbol) → AreMisfits ts rest → drop (length ts - length rest) ts ≡ rest
 dropped_rest ts rest misfits =
-    let lengths = ap length misfits.splits ∙ length-append misfits.front rest in
-    let front : length ts - length rest ≡ length misfits.front = omega arith in
-    ap (λ k. drop k ts) front ∙ ap (drop (length misfits.front)) misfits.splits ∙ drop-append_seam misfits.front rest
+    let lengths = ap length misfits.1 ∙ length-append misfits.0 rest in
+    let front : length ts - length rest ≡ length misfits.0 = omega arith in
+    ap (λ k. drop k ts) front ∙ ap (drop (length misfits.0)) misfits.1 ∙ drop-append_seam misfits.0 rest
 
 dropped_symbols : (s : Text) (k : ℕ) → symbols_at s (drop k (placed_tokens s)) ≡ drop k (symbols_at s (placed_tokens s))
 dropped_symbols s k = sym (ap (map symbol_of) (drop-map _ k (placed_tokens s))) ∙ sym (drop-map symbol_of k (slice_texts s (placed_tokens s)))
@@ -80,7 +80,7 @@ module _ (law : TokensArePlaced) (s : Text) (list : List Token) (is : tokens s �
   -- no more are left than there are
   pub rest_short : length rest ≤ length (placed_tokens s)
   rest_short =
-      let lengths = ap length misfits.splits ∙ length-append misfits.front rest in
+      let lengths = ap length misfits.1 ∙ length-append misfits.0 rest in
       let many = placed_length law s list is ∙ sym (length-map list symbol_of) in
       omega arith
 
@@ -158,18 +158,13 @@ placed_fault law s list is few n ts symbols count e placed =
       derives = record { formed = there.formed; spells = ap (on_result (map symbol_of)) is ∙ ap Ok (sym symbols ∙ sym there.spells) };
       sub = fault.sub;
       first = fault.first;
-      there = subst (λ k. AreTokens k (fault_tokens (build_error_of e) fault.sub.after fault.sub.derivation) e.place) many fault.place;
+      there = subst (λ k. AreTokens k (fault_tokens (build_error_of e) fault.sub.0 fault.sub.1) e.place) many fault.place;
     }
 
 fault_at : (s : Text) (e : BuildError) (place : Place) (span : Span) → IsPlacedFault s e place → IsAtTokens s span
     → ((range : TokenRange) → place ≡ Tokens range → 0 < length (in_range range 0 (placed_tokens s)) → span ≡ span_over s (in_range range 0 (placed_tokens s))) → IsAtBuildFault s e span
-fault_at s e place span placed at is = record {
-  derivation = placed.derivation;
-  derives = placed.derives;
-  sub = placed.sub;
-  first = placed.first;
-  place = span_at s (fault_tokens e placed.sub.after placed.sub.derivation) place span placed.there is;
-}
+fault_at s e place span placed at is =
+    (placed.derivation, placed.derives, placed.sub, placed.first, span_at s (fault_tokens e placed.sub.0 placed.sub.1) place span placed.there is)
 
 same_fault : (e f : BuildError) → plain.fault e ≡ plain.fault f → e ≡ f
 same_fault e f same = cc

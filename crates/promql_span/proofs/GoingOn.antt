@@ -30,8 +30,8 @@ no_token_goes_on front k text ts (x ∷ rest) is misfits some goes =
     let asked : List Symbol = front ++ symbol k text ∷ others in
     let alike : AreAlike (front ++ symbol k goes.1 ∷ others) asked = alike_append front (symbol k goes.1 ∷ others) front (symbol k text ∷ others) (same_alike front) (alike_symbols (is_punct k) k goes.1 text others) in
     let again = derivation_again goes.0 asked goes.3 (subst (λ l. AreAlike l asked) (sym goes.4) alike) in
-    misfits.none again.it (rest ++ others) again.formed
-    (again.spells ∙ sym (append_assoc front (symbol k text ∷ []) others) ∙ ap (λ l. l ++ others) (sym is ∙ misfits.splits) ∙ append_assoc misfits.front (x ∷ rest) others)
+    misfits.2 again.it (rest ++ others) again.formed
+    (again.spells ∙ sym (append_assoc front (symbol k text ∷ []) others) ∙ ap (λ l. l ++ others) (sym is ∙ misfits.1) ∙ append_assoc misfits.0 (x ∷ rest) others)
 
 -- an id past the table has no kind of its own
 pub past_kinds : (id : ℕ) → 86 ≤ id → token_kind id ≡ Other

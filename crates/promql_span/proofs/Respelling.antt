@@ -6,10 +6,10 @@ use Rattle.promql_token.specs.declared.ids.TheConstants.{T_NEQ, T_LOR, T_ADD, T_
 use Rattle.promql_grammar.specs.declared.token_kinds.TokenKind.{TokenKind}
 use Rattle.promql_grammar.specs.declared.token_kinds.TokenKind.TheVariants as kind
 use Rattle.promql_grammar.specs.Symbols.{Symbol, punct, word}
-use Rattle.promql_grammar.specs.GrammarParts.{Time, yield_time, Signed, yield_signed, Labels, yield_names, yield_labels, IsLabels, Grouping, yield_grouping, Group, yield_group, IsGroup, Matching, yield_matching, IsMatching, FillValue, yield_value, yield_side, Fills, yield_fills, Modifier, yield_modifier, MatchOperator, yield_match_operator, Item, yield_item, name_kind, Separator, yield_separator, Items, yield_items, Braces, yield_braces, yield_any_braces, Postfix, yield_postfix}
-use Rattle.promql_grammar.specs.PartTokens.{IsGrouping, yield_flag, yield_step}
+use Rattle.promql_grammar.specs.GrammarParts.{Time, yield_time, Signed, yield_signed, Labels, yield_names, yield_labels, IsLabels, Grouping, yield_grouping, Group, yield_group, Matching, yield_matching, IsMatching, FillValue, yield_value, yield_side, Fills, yield_fills, Modifier, yield_modifier, MatchOperator, yield_match_operator, Item, yield_item, name_kind, Separator, yield_separator, Items, yield_items, Braces, yield_braces, Postfix, yield_postfix}
+use Rattle.promql_grammar.specs.PartTokens.{IsGrouping, IsClause, yield_flag, yield_step, IsGroup, yield_any_braces, yield_rest}
 use Rattle.promql_grammar.specs.GrammarParts as part
-use Rattle.promql_grammar.specs.Grammar.{Derivation, Arguments, IsWellFormed, AreWellFormed, yield, yield_arguments, yield_rest, openness, precedence, FitsLeft, FitsRight, FitsUnary, IsBase, FitsMatching, OpensNoParen}
+use Rattle.promql_grammar.specs.Grammar.{Derivation, Arguments, IsWellFormed, AreWellFormed, yield, yield_arguments, openness, precedence, FitsLeft, FitsRight, FitsUnary, IsBase, FitsMatching, OpensNoParen}
 use Rattle.promql_grammar.specs.Grammar as form
 
 -- tokens of the same kinds
@@ -98,11 +98,11 @@ time (part.seconds text) us a = let w = first_word kind.Number text [] us a in l
 time (part.duration text) us a = let w = first_word kind.Duration text [] us a in let e = none_alike w.rest w.alike in record { it = part.duration w.text; formed = tt; spells = ap (λ l. word kind.Duration w.text ∷ l) (sym e) ∙ sym w.is }
 
 signed : (s : Signed) (us : List Symbol) → AreAlike (yield_signed s) us → Respelled yield_signed Any us
-signed part.unsigned us a = record { it = part.unsigned; formed = tt; spells = sym (none_alike us a) }
-signed (part.signed minus text) us a =
+signed None us a = record { it = None; formed = tt; spells = sym (none_alike us a) }
+signed (Some (minus, text)) us a =
     let k = kind.Operator (if minus then T_SUB else T_ADD) in
     let w = first_word k text [] us a in let e = none_alike w.rest w.alike in
-    record { it = part.signed minus w.text; formed = tt; spells = ap (λ l. word k w.text ∷ l) (sym e) ∙ sym w.is }
+    record { it = Some (minus, w.text); formed = tt; spells = ap (λ l. word k w.text ∷ l) (sym e) ∙ sym w.is }
 
 names : (ls : Labels) (us : List Symbol) → IsLabels ls → AreAlike (yield_names ls) us → Respelled yield_names IsLabels us
 names part.no_label us is a = record { it = part.no_label; formed = tt; spells = parenthesis us a }
@@ -119,37 +119,37 @@ labels ls us is a =
     record { it = r.it; formed = r.formed; spells = ap (λ l. punct kind.LeftParen ∷ l) r.spells ∙ sym p.is }
 
 grouping : (g : Grouping) (us : List Symbol) → IsGrouping g → AreAlike (yield_grouping g) us → Respelled yield_grouping IsGrouping us
-grouping (part.grouping by text ls) us is a =
+grouping (by, text, ls) us is a =
     let k = if by then kind.By else kind.Without in
     let w = first_word k text (yield_labels ls) us a in let r = labels ls w.rest is w.alike in
-    record { it = part.grouping by w.text r.it; formed = r.formed; spells = ap (λ l. word k w.text ∷ l) r.spells ∙ sym w.is }
+    record { it = (by, w.text, r.it); formed = r.formed; spells = ap (λ l. word k w.text ∷ l) r.spells ∙ sym w.is }
 
 -- whether a grouping word has no labels
 abbrev is_bare : Group → Bool
-is_bare (part.bare k text) = true
+is_bare (Some (k, text, None)) = true
 is_bare g = false
 
 group : (g : Group) (us : List Symbol) → IsGroup g → AreAlike (yield_group g) us → Respelled yield_group (λ h. IsGroup h × (is_bare g ≡ is_bare h)) us
-group part.no_group us is a = record { it = part.no_group; formed = (tt, refl); spells = sym (none_alike us a) }
-group (part.bare left text) us is a =
+group None us is a = record { it = None; formed = (tt, refl); spells = sym (none_alike us a) }
+group (Some (left, text, None)) us is a =
     let k = if left then kind.GroupLeft else kind.GroupRight in
     let w = first_word k text [] us a in let e = none_alike w.rest w.alike in
-    record { it = part.bare left w.text; formed = (tt, refl); spells = ap (λ l. word k w.text ∷ l) (sym e) ∙ sym w.is }
-group (part.listed left text ls) us is a =
+    record { it = Some (left, w.text, None); formed = (tt, refl); spells = ap (λ l. word k w.text ∷ l) (sym e) ∙ sym w.is }
+group (Some (left, text, Some ls)) us is a =
     let k = if left then kind.GroupLeft else kind.GroupRight in
     let w = first_word k text (yield_labels ls) us a in let r = labels ls w.rest is w.alike in
-    record { it = part.listed left w.text r.it; formed = (r.formed, refl); spells = ap (λ l. word k w.text ∷ l) r.spells ∙ sym w.is }
+    record { it = Some (left, w.text, Some r.it); formed = (r.formed, refl); spells = ap (λ l. word k w.text ∷ l) r.spells ∙ sym w.is }
 
 value : (v : FillValue) (us : List Symbol) → AreAlike (yield_value v) us → Respelled yield_value Any us
 value v us a =
-    let number : List Symbol = word kind.Number v.number ∷ closing in
-    let p = first_punct kind.LeftParen (yield_signed v.sign ++ number) us a in
-    let q = parts (yield_signed v.sign) number p.rest p.alike in
-    let s = signed v.sign q.left q.left_alike in
-    let w = first_word kind.Number v.number closing q.right q.right_alike in
+    let number : List Symbol = word kind.Number v.1 ∷ closing in
+    let p = first_punct kind.LeftParen (yield_signed v.0 ++ number) us a in
+    let q = parts (yield_signed v.0) number p.rest p.alike in
+    let s = signed v.0 q.left q.left_alike in
+    let w = first_word kind.Number v.1 closing q.right q.right_alike in
     let e = parenthesis w.rest w.alike in
     let end : word kind.Number w.text ∷ punct kind.RightParen ∷ [] ≡ q.right = ap (λ l. word kind.Number w.text ∷ l) e ∙ sym w.is in
-    record { it = record { sign = s.it; number = w.text }; formed = tt; spells = ap (λ l. punct kind.LeftParen ∷ l) ((λ i. s.spells i ++ end i) ∙ sym q.is) ∙ sym p.is }
+    record { it = (s.it, w.text); formed = tt; spells = ap (λ l. punct kind.LeftParen ∷ l) ((λ i. s.spells i ++ end i) ∙ sym q.is) ∙ sym p.is }
 
 -- whether there are no fill values
 abbrev is_unfilled : Fills → Bool
@@ -180,55 +180,55 @@ flag (Some text) us a = let w = first_word kind.Bool text [] us a in let e = non
 
 -- what a grouping word without labels asks of a right side
 abbrev FitsGroup : Group → Fills → List Symbol → Type 0
-FitsGroup (part.bare left text) part.no_fill ts = OpensNoParen ts
+FitsGroup (Some (left, text, None)) part.no_fill ts = OpensNoParen ts
 FitsGroup g f ts = Unit {0}
 
-to_group : (on : Bool) (text : Text) (ls : Labels) (g : Group) (f : Fills) (ts : List Symbol) → FitsMatching (part.matching on text ls g) f ts → FitsGroup g f ts
-to_group on text ls (part.bare left other) part.no_fill ts fits = fits
+to_group : (on : Bool) (text : Text) (ls : Labels) (g : Group) (f : Fills) (ts : List Symbol) → FitsMatching (Some (on, text, ls, g)) f ts → FitsGroup g f ts
+to_group on text ls (Some (left, other, None)) part.no_fill ts fits = fits
 to_group on text ls g f ts fits = tt
 
-from_group : (on : Bool) (text : Text) (ls : Labels) (g : Group) (f : Fills) (ts : List Symbol) → FitsGroup g f ts → FitsMatching (part.matching on text ls g) f ts
-from_group on text ls (part.bare left other) part.no_fill ts fits = fits
+from_group : (on : Bool) (text : Text) (ls : Labels) (g : Group) (f : Fills) (ts : List Symbol) → FitsGroup g f ts → FitsMatching (Some (on, text, ls, g)) f ts
+from_group on text ls (Some (left, other, None)) part.no_fill ts fits = fits
 from_group on text ls g f ts fits = tt
 
 -- what a modifier asks of its right side, it asks of one with other texts
 fits_group : (g h : Group) (f e : Fills) (ts : List Symbol) → is_bare g ≡ is_bare h → is_unfilled f ≡ is_unfilled e → FitsGroup g f ts → FitsGroup h e ts
-fits_group g part.no_group f e ts bare unfilled fits = tt
-fits_group g (part.listed left text ls) f e ts bare unfilled fits = tt
-fits_group g (part.bare left text) f (part.both t v) ts bare unfilled fits = tt
-fits_group g (part.bare left text) f (part.one side t v) ts bare unfilled fits = tt
-fits_group g (part.bare left text) f (part.two side t v u w) ts bare unfilled fits = tt
-fits_group (part.bare right other) (part.bare left text) part.no_fill part.no_fill ts bare unfilled fits = fits
-fits_group part.no_group (part.bare left text) f part.no_fill ts bare unfilled fits = cc
-fits_group (part.listed right other ls) (part.bare left text) f part.no_fill ts bare unfilled fits = cc
-fits_group (part.bare right other) (part.bare left text) f part.no_fill ts bare unfilled fits = cc
+fits_group g None f e ts bare unfilled fits = tt
+fits_group g (Some (left, text, Some ls)) f e ts bare unfilled fits = tt
+fits_group g (Some (left, text, None)) f (part.both t v) ts bare unfilled fits = tt
+fits_group g (Some (left, text, None)) f (part.one side t v) ts bare unfilled fits = tt
+fits_group g (Some (left, text, None)) f (part.two side t v u w) ts bare unfilled fits = tt
+fits_group (Some (right, other, None)) (Some (left, text, None)) part.no_fill part.no_fill ts bare unfilled fits = fits
+fits_group None (Some (left, text, None)) f part.no_fill ts bare unfilled fits = cc
+fits_group (Some (right, other, Some ls)) (Some (left, text, None)) f part.no_fill ts bare unfilled fits = cc
+fits_group (Some (right, other, None)) (Some (left, text, None)) f part.no_fill ts bare unfilled fits = cc
 
 matching : (m : Matching) (us : List Symbol) → IsMatching m → AreAlike (yield_matching m) us
     → Respelled yield_matching (λ n. IsMatching n × ((f e : Fills) (ts : List Symbol) → is_unfilled f ≡ is_unfilled e → FitsMatching m f ts → FitsMatching n e ts)) us
-matching part.no_matching us is a = record { it = part.no_matching; formed = (tt, λ f e ts unfilled fits. tt); spells = sym (none_alike us a) }
-matching (part.matching on text ls g) us is a =
+matching None us is a = record { it = None; formed = (tt, λ f e ts unfilled fits. tt); spells = sym (none_alike us a) }
+matching (Some (on, text, ls, g)) us is a =
     let k = if on then kind.On else kind.Ignoring in
     let w = first_word k text (yield_labels ls ++ yield_group g) us a in
     let q = parts (yield_labels ls) (yield_group g) w.rest w.alike in
     let l = labels ls q.left is.0 q.left_alike in
     let r = group g q.right is.1 q.right_alike in
     record {
-      it = part.matching on w.text l.it r.it;
+      it = Some (on, w.text, l.it, r.it);
       formed = ((l.formed, r.formed.0), λ f e ts unfilled fits. from_group on w.text l.it r.it e ts (fits_group g r.it f e ts r.formed.1 unfilled (to_group on text ls g f ts fits)));
       spells = ap (λ l. word k w.text ∷ l) ((λ i. l.spells i ++ r.spells i) ∙ sym q.is) ∙ sym w.is;
     }
 
-modifier : (m : Modifier) (us : List Symbol) → IsMatching m.matching → AreAlike (yield_modifier m) us
-    → Respelled yield_modifier (λ n. IsMatching n.matching × ((ts : List Symbol) → FitsMatching m.matching m.fills ts → FitsMatching n.matching n.fills ts)) us
+modifier : (m : Modifier) (us : List Symbol) → IsMatching m.1 → AreAlike (yield_modifier m) us
+    → Respelled yield_modifier (λ n. IsMatching n.1 × ((ts : List Symbol) → FitsMatching m.1 m.2 ts → FitsMatching n.1 n.2 ts)) us
 modifier m us is a =
-    let p = parts (yield_flag m.flag) (yield_matching m.matching ++ yield_fills m.fills) us a in
-    let q = parts (yield_matching m.matching) (yield_fills m.fills) p.right p.right_alike in
-    let b = flag m.flag p.left p.left_alike in
-    let w = matching m.matching q.left is q.left_alike in
-    let f = fills m.fills q.right q.right_alike in
+    let p = parts (yield_flag m.0) (yield_matching m.1 ++ yield_fills m.2) us a in
+    let q = parts (yield_matching m.1) (yield_fills m.2) p.right p.right_alike in
+    let b = flag m.0 p.left p.left_alike in
+    let w = matching m.1 q.left is q.left_alike in
+    let f = fills m.2 q.right q.right_alike in
     record {
-      it = record { flag = b.it; matching = w.it; fills = f.it };
-      formed = (w.formed.0, λ ts fits. w.formed.1 m.fills f.it ts f.formed fits);
+      it = (b.it, w.it, f.it);
+      formed = (w.formed.0, λ ts fits. w.formed.1 m.2 f.it ts f.formed fits);
       spells = (λ i. b.spells i ++ ((λ j. w.spells j ++ f.spells j) ∙ sym q.is) i) ∙ sym p.is;
     }
 
@@ -239,8 +239,8 @@ match_operator part.equal_regex ts us a = let p = first_punct kind.EqualRegex ts
 match_operator part.not_equal_regex ts us a = let p = first_punct kind.NotEqualRegex ts us a in (part.not_equal_regex, p.rest, p.is, p.alike)
 
 separator : (s : Separator) (ts us : List Symbol) → AreAlike (yield_separator s ∷ ts) us → (n : Separator) × (vs : List Symbol) × (us ≡ yield_separator n ∷ vs) × AreAlike ts vs
-separator part.comma ts us a = let p = first_punct kind.Comma ts us a in (part.comma, p.rest, p.is, p.alike)
-separator (part.or text) ts us a = let w = first_word (kind.Operator T_LOR) text ts us a in (part.or w.text, w.rest, w.is, w.alike)
+separator None ts us a = let p = first_punct kind.Comma ts us a in (None, p.rest, p.is, p.alike)
+separator (Some text) ts us a = let w = first_word (kind.Operator T_LOR) text ts us a in (Some w.text, w.rest, w.is, w.alike)
 
 item : (i : Item) (us : List Symbol) → AreAlike (yield_item i) us → Respelled yield_item Any us
 item (part.matcher quoted text s value) us a =
@@ -258,14 +258,14 @@ item (part.matcher quoted text s value) us a =
 item (part.lone text) us a = let w = first_word kind.String text [] us a in let e = none_alike w.rest w.alike in record { it = part.lone w.text; formed = tt; spells = ap (λ l. word kind.String w.text ∷ l) (sym e) ∙ sym w.is }
 
 items : (is : Items) (us : List Symbol) → AreAlike (yield_items is) us → Respelled yield_items Any us
-items (part.last_item i) us a =
+items (part.last_item i false) us a =
     let q = parts (yield_item i) (punct kind.RightBrace ∷ []) us a in
     let r = item i q.left q.left_alike in
     let p = first_punct kind.RightBrace [] q.right q.right_alike in
     let e = none_alike p.rest p.alike in
     let end : punct kind.RightBrace ∷ [] ≡ q.right = ap (λ l. punct kind.RightBrace ∷ l) (sym e) ∙ sym p.is in
-    record { it = part.last_item r.it; formed = tt; spells = (λ j. r.spells j ++ end j) ∙ sym q.is }
-items (part.last_item_comma i) us a =
+    record { it = part.last_item r.it false; formed = tt; spells = (λ j. r.spells j ++ end j) ∙ sym q.is }
+items (part.last_item i true) us a =
     let close : List Symbol = punct kind.RightBrace ∷ [] in
     let q = parts (yield_item i) (punct kind.Comma ∷ close) us a in
     let r = item i q.left q.left_alike in
@@ -273,7 +273,7 @@ items (part.last_item_comma i) us a =
     let p = first_punct kind.RightBrace [] c.rest c.alike in
     let e = none_alike p.rest p.alike in
     let end : punct kind.Comma ∷ punct kind.RightBrace ∷ [] ≡ q.right = ap (λ l. punct kind.Comma ∷ l) (ap (λ l. punct kind.RightBrace ∷ l) (sym e) ∙ sym p.is) ∙ sym c.is in
-    record { it = part.last_item_comma r.it; formed = tt; spells = (λ j. r.spells j ++ end j) ∙ sym q.is }
+    record { it = part.last_item r.it true; formed = tt; spells = (λ j. r.spells j ++ end j) ∙ sym q.is }
 items (part.next_item i s is) us a =
     let q = parts (yield_item i) (yield_separator s ∷ yield_items is) us a in
     let r = item i q.left q.left_alike in
@@ -283,12 +283,12 @@ items (part.next_item i s is) us a =
     record { it = part.next_item r.it o.0 more.it; formed = tt; spells = (λ j. r.spells j ++ end j) ∙ sym q.is }
 
 braces : (b : Braces) (us : List Symbol) → AreAlike (yield_braces b) us → Respelled yield_braces Any us
-braces part.no_item us a =
+braces None us a =
     let p = first_punct kind.LeftBrace (punct kind.RightBrace ∷ []) us a in let q = first_punct kind.RightBrace [] p.rest p.alike in let e = none_alike q.rest q.alike in
-    record { it = part.no_item; formed = tt; spells = ap (λ l. punct kind.LeftBrace ∷ l) (ap (λ l. punct kind.RightBrace ∷ l) (sym e) ∙ sym q.is) ∙ sym p.is }
-braces (part.items is) us a =
+    record { it = None; formed = tt; spells = ap (λ l. punct kind.LeftBrace ∷ l) (ap (λ l. punct kind.RightBrace ∷ l) (sym e) ∙ sym q.is) ∙ sym p.is }
+braces (Some is) us a =
     let p = first_punct kind.LeftBrace (yield_items is) us a in let r = items is p.rest p.alike in
-    record { it = part.items r.it; formed = tt; spells = ap (λ l. punct kind.LeftBrace ∷ l) r.spells ∙ sym p.is }
+    record { it = Some r.it; formed = tt; spells = ap (λ l. punct kind.LeftBrace ∷ l) r.spells ∙ sym p.is }
 
 any_braces : (b : Option Braces) (us : List Symbol) → AreAlike (yield_any_braces b) us → Respelled yield_any_braces Any us
 any_braces None us a = record { it = None; formed = tt; spells = sym (none_alike us a) }
@@ -347,19 +347,19 @@ postfix (part.offset text s t) us a =
     record { it = part.offset w.text l.it r.it; formed = tt; spells = ap (λ l. word kind.Offset w.text ∷ l) ((λ i. l.spells i ++ r.spells i) ∙ sym q.is) ∙ sym w.is }
 postfix (part.mode smoothed text) us a = let k = if smoothed then kind.Smoothed else kind.Anchored in let w = first_word k text [] us a in let e = none_alike w.rest w.alike in record { it = part.mode smoothed w.text; formed = tt; spells = ap (λ l. word k w.text ∷ l) (sym e) ∙ sym w.is }
 
-is_before : (g : Grouping) → IsGrouping g → part.IsClause (part.before g)
-is_before (part.grouping by text ls) is = is
+is_before : (g : Grouping) → IsGrouping g → IsClause (Some (true, g))
+is_before (by, text, ls) is = is
 
-is_after : (g : Grouping) → IsGrouping g → part.IsClause (part.after g)
-is_after (part.grouping by text ls) is = is
+is_after : (g : Grouping) → IsGrouping g → IsClause (Some (false, g))
+is_after (by, text, ls) is = is
 
-clause : (c : part.Clause) (us vs : List Symbol) → part.IsClause c → AreAlike (part.yield_before c) us → AreAlike (part.yield_after c) vs
-    → (n : part.Clause) × part.IsClause n × (part.yield_before n ≡ us) × (part.yield_after n ≡ vs)
-clause part.no_clause us vs is a b = (part.no_clause, tt, sym (none_alike us a), sym (none_alike vs b))
-clause (part.before (part.grouping by text ls)) us vs is a b =
-    let r = grouping (part.grouping by text ls) us is a in (part.before r.it, is_before r.it r.formed, r.spells, sym (none_alike vs b))
-clause (part.after (part.grouping by text ls)) us vs is a b =
-    let r = grouping (part.grouping by text ls) vs is b in (part.after r.it, is_after r.it r.formed, sym (none_alike us a), r.spells)
+clause : (c : part.Clause) (us vs : List Symbol) → IsClause c → AreAlike (part.yield_before c) us → AreAlike (part.yield_after c) vs
+    → (n : part.Clause) × IsClause n × (part.yield_before n ≡ us) × (part.yield_after n ≡ vs)
+clause None us vs is a b = (None, tt, sym (none_alike us a), sym (none_alike vs b))
+clause (Some (true, (by, text, ls))) us vs is a b =
+    let r = grouping (by, text, ls) us is a in (Some (true, r.it), is_before r.it r.formed, r.spells, sym (none_alike vs b))
+clause (Some (false, (by, text, ls))) us vs is a b =
+    let r = grouping (by, text, ls) vs is b in (Some (false, r.it), is_after r.it r.formed, sym (none_alike us a), r.spells)
 
 -- ---- expressions
 
@@ -377,12 +377,12 @@ opens_alike (word k t ∷ ts) (punct j ∷ us) a opens = absurd a.0
 opens_alike (word k t ∷ ts) (word j u ∷ us) a opens = tt
 
 group_alike : (g : Group) (f : Fills) (ts us : List Symbol) → AreAlike ts us → FitsGroup g f ts → FitsGroup g f us
-group_alike (part.bare left text) part.no_fill ts us a fits = opens_alike ts us a fits
+group_alike (Some (left, text, None)) part.no_fill ts us a fits = opens_alike ts us a fits
 group_alike g f ts us a fits = tt
 
 matching_alike : (m : Matching) (f : Fills) (ts us : List Symbol) → AreAlike ts us → FitsMatching m f ts → FitsMatching m f us
-matching_alike part.no_matching f ts us a fits = tt
-matching_alike (part.matching on text ls g) f ts us a fits = from_group on text ls g f us (group_alike g f ts us a (to_group on text ls g f ts fits))
+matching_alike None f ts us a fits = tt
+matching_alike (Some (on, text, ls, g)) f ts us a fits = from_group on text ls g f us (group_alike g f ts us a (to_group on text ls g f ts fits))
 
 -- a derivation of the same form with these tokens
 pub record Again (d : Derivation) (us : List Symbol) : Type 0 where
@@ -418,19 +418,19 @@ mutual
       let end = parenthesis q.right q.right_alike in
       record { it = form.paren r.it; formed = r.formed; spells = ap (λ l. punct kind.LeftParen ∷ l) ((λ i. r.spells i ++ end i) ∙ sym q.is) ∙ sym p.is; open_alike = refl; right = λ op fits. fits; sign = λ fits. fits; base = λ is. is }
   derivation_again (form.call k text ds) us is a =
-      let w = first_word k text (punct kind.LeftParen ∷ yield_arguments ds) us a in
-      let p = first_punct kind.LeftParen (yield_arguments ds) w.rest w.alike in
+      let w = first_word k text (punct kind.LeftParen ∷ yield_arguments [] ds) us a in
+      let p = first_punct kind.LeftParen (yield_arguments [] ds) w.rest w.alike in
       let r = arguments_again ds p.rest is.1 p.alike in
       record { it = form.call k w.text r.it; formed = (is.0, r.formed); spells = ap (λ l. word k w.text ∷ l) (ap (λ l. punct kind.LeftParen ∷ l) r.spells ∙ sym p.is) ∙ sym w.is; open_alike = refl; right = λ op fits. fits; sign = λ fits. fits; base = λ is. is }
   derivation_again (form.aggregate op text c ds) us is a =
-      let inner : List Symbol = yield_arguments ds ++ part.yield_after c in
+      let inner : List Symbol = yield_arguments [] ds ++ part.yield_after c in
       let w = first_word (kind.Aggregator op) text (part.yield_before c ++ punct kind.LeftParen ∷ inner) us a in
       let q = parts (part.yield_before c) (punct kind.LeftParen ∷ inner) w.rest w.alike in
       let p = first_punct kind.LeftParen inner q.right q.right_alike in
-      let o = parts (yield_arguments ds) (part.yield_after c) p.rest p.alike in
+      let o = parts (yield_arguments [] ds) (part.yield_after c) p.rest p.alike in
       let r = arguments_again ds o.left is.1 o.left_alike in
       let n = clause c q.left o.right is.0 q.left_alike o.right_alike in
-      let tail : punct kind.LeftParen ∷ (yield_arguments r.it ++ part.yield_after n.0) ≡ q.right = ap (λ l. punct kind.LeftParen ∷ l) ((λ i. r.spells i ++ n.3 i) ∙ sym o.is) ∙ sym p.is in
+      let tail : punct kind.LeftParen ∷ (yield_arguments [] r.it ++ part.yield_after n.0) ≡ q.right = ap (λ l. punct kind.LeftParen ∷ l) ((λ i. r.spells i ++ n.3 i) ∙ sym o.is) ∙ sym p.is in
       record { it = form.aggregate op w.text n.0 r.it; formed = (n.1, r.formed); spells = ap (λ l. word (kind.Aggregator op) w.text ∷ l) ((λ i. n.2 i ++ tail i) ∙ sym q.is) ∙ sym w.is; open_alike = refl; right = λ op fits. fits; sign = λ fits. fits; base = λ is. is }
   derivation_again (form.postfixed d p) us is a =
       let q = parts (yield d) (yield_postfix p) us a in
@@ -453,7 +453,7 @@ mutual
       let alike : AreAlike (yield r) (yield y.it) = subst (AreAlike (yield r)) (sym y.spells) o.right_alike in
       record {
         it = form.binary op w.text n.it x.it y.it;
-        formed = (x.formed, y.formed, n.formed.0, subst (FitsLeft op) (sym x.open_alike) is.3, y.right op is.4, matching_alike n.it.matching n.it.fills (yield r) (yield y.it) alike (n.formed.1 (yield r) is.5));
+        formed = (x.formed, y.formed, n.formed.0, subst (FitsLeft op) (sym x.open_alike) is.3, y.right op is.4, matching_alike n.it.1 n.it.2 (yield r) (yield y.it) alike (n.formed.1 (yield r) is.5));
         spells = (λ i. x.spells i ++ tail i) ∙ sym q.is;
         open_alike = ap (min (precedence op)) y.open_alike;
         right = λ op fits. fits;
@@ -461,7 +461,7 @@ mutual
         base = λ is. is;
       }
 
-  arguments_again : (ds : Arguments) (us : List Symbol) → AreWellFormed ds → AreAlike (yield_arguments ds) us → Respelled yield_arguments AreWellFormed us
+  arguments_again : (ds : Arguments) (us : List Symbol) → AreWellFormed ds → AreAlike (yield_arguments [] ds) us → Respelled (yield_arguments []) AreWellFormed us
   arguments_again form.none us is a = record { it = form.none; formed = tt; spells = parenthesis us a }
   arguments_again (form.more d ds) us is a =
       let q = parts (yield d) (yield_rest ds) us a in

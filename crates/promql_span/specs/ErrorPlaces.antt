@@ -21,13 +21,10 @@ IsAtFault s at kind span = (at < length s → IsCharAt s at span) × (length s �
 
 -- a fault of building is that of the first expression in the text's derivation that does not build, and where it is told which of its
 -- tokens that is about, from the one on with which `left.0` are left, up to where `left.1` are, the span is that of these
-pub record IsAtBuildFault (s : Text) (e : BuildError) (span : Span) : Type 0 where
-  pub derivation : Derivation
-  pub derives : Derives s derivation
-  pub sub : Subexpression
-  pub first : IsFirstFault e (subexpressions 0 derivation) sub
-  pub place : IfSome (fault_tokens e sub.after sub.derivation)
-      (λ left. left.1 < left.0 → span ≡ span_over s (take (left.0 - left.1) (last_tokens left.0 (placed_tokens s))))
+abbrev pub IsAtBuildFault : Text → BuildError → Span → Type 0
+IsAtBuildFault s e span =
+    (d : Derivation) × Derives s d × (sub : Subexpression) × IsFirstFault e (subexpressions 0 d) sub
+    × IfSome (fault_tokens e sub.0 sub.1) (λ left. left.1 < left.0 → span ≡ span_over s (take (left.0 - left.1) (last_tokens left.0 (placed_tokens s))))
 
 -- tokens in a row, and of a fault of building its own where it is told which
 abbrev pub IsAtError : Text → ParseError → Span → Type 0

@@ -29,7 +29,7 @@ pub record IsPlacedFault (s : Text) (e : BuildError) (place : Place) : Type 0 wh
   pub derives : Derives s derivation
   pub sub : Subexpression
   pub first : IsFirstFault e (subexpressions 0 derivation) sub
-  pub there : AreTokens (length (placed_tokens s)) (fault_tokens e sub.after sub.derivation) place
+  pub there : AreTokens (length (placed_tokens s)) (fault_tokens e sub.0 sub.1) place
 
 abbrev pub IsPlacedError : Text → PlainParseError → Place → Type 0
 IsPlacedError s (fault e) place = IsPlacedFault s e place

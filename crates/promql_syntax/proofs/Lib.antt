@@ -1,3 +1,4 @@
+pub mod BlankModifiers
 pub mod answer
 pub mod building
 pub mod lexed

@@ -8,7 +8,7 @@ use Rattle.promql_token.specs.declared.ids.TheConstants.{T_SUB}
 use Rattle.promql_grammar.specs.GrammarParts as part
 use Rattle.promql_grammar.specs.Grammar as grammar
 use Rattle.promql_label.specs.PlainMatchers.{PlainMatchers, plain_matchers}
-use Rattle.promql_kind.specs.Functions.{Signature, function_named}
+use Rattle.promql_kind.specs.Functions.{function_named}
 use Rattle.promql_ast.specs.Builds.{minus, with_range, at_given, offset_given, mode_given, aggregate_args}
 use Rattle.promql_ast.specs.Checked.{check_tree}
 use Rattle.promql_ast.specs.Faults.{Verdict, passes, rejected}
@@ -18,7 +18,7 @@ use Rattle.promql_ast.specs.Tree as tree
 use Rattle.promql_ast.specs.declared.range_mode.RangeMode.TheVariants.{Smoothed, Anchored}
 use Rattle.promql_syntax.specs.Asking.{Asking, gives, fails, ◌giving◌, known}
 use Rattle.promql_syntax.specs.BuildErrors.{unknown_function, check}
-use Rattle.promql_syntax.specs.PartBuilding.{string_value, number_value, duration_value, time_value, step_value, shift_value, moment_value, clause_value, modifier_value, braces_value}
+use Rattle.promql_syntax.specs.PartBuilding.{string_value, number_value, duration_value, time_value, if_given, shift_value, moment_value, grouping_value, modifier_value, braces_value}
 
 -- a tree that passes, or the error of a check
 abbrev pub from_verdict : Verdict → Asking tree.Tree
@@ -32,25 +32,17 @@ from_checked_verdict verdict = from_verdict verdict giving λ t. from_verdict (c
 abbrev pub selector_tree : Option Text → PlainMatchers → Asking tree.Tree
 selector_tree name cs = from_verdict (check_tree (tree.vector (selector name cs None None)))
 
--- "Calls": the name is looked up after the arguments
-abbrev pub build_call : Text → Option Signature → tree.Trees → Asking tree.Tree
-build_call name None ts = fails (unknown_function name)
-build_call name (Some f) ts = from_verdict (check_tree (tree.call f ts))
-
 -- "Postfixes": what one makes of its base
 abbrev pub build_postfix : tree.Tree → part.Postfix → Asking tree.Tree
 build_postfix t (part.range r) = known (time_value r) giving λ n. from_verdict (with_range t n)
 build_postfix t (part.subquery r s) =
-    known (time_value r) giving λ n. known (step_value s) giving λ m. from_verdict (check_tree (tree.subquery t None None n m))
+    known (time_value r) giving λ n. known (if_given time_value s) giving λ m. from_verdict (check_tree (tree.subquery t None None n m))
 build_postfix t (part.at_number s text) = known (moment_value s text) giving λ m. from_verdict (at_given t m)
 build_postfix t (part.at_bound start text) = from_verdict (at_given t (if start then at_start else at_end))
 build_postfix t (part.offset text s r) = known (shift_value s r) giving λ x. from_verdict (offset_given t x)
 build_postfix t (part.mode smoothed text) = from_verdict (mode_given t (if smoothed then Smoothed else Anchored))
 
--- "Unary operators": a plus leaves nothing
-abbrev pub build_unary : ℕ → tree.Tree → Asking tree.Tree
-build_unary op t = if op == T_SUB then from_checked_verdict (minus t) else gives t
-
+-- "Unary operators": a plus leaves nothing; "Calls": the name is looked up after the arguments
 abbrev mutual
   pub build : grammar.Derivation → Asking tree.Tree
   build (grammar.number text) = known (number_value text) giving λ n. gives (tree.number n)
@@ -59,11 +51,12 @@ abbrev mutual
   build (grammar.selector k text b) = option_map_or braces_value b (gives (plain_matchers [] [])) giving λ cs. selector_tree (Some text) cs
   build (grammar.nameless b) = braces_value b giving λ cs. selector_tree None cs
   build (grammar.paren d) = build d giving λ t. gives (tree.paren t)
-  build (grammar.call k text ds) = build_all ds giving λ ts. build_call text (function_named text) ts
+  build (grammar.call k text ds) =
+      build_all ds giving λ ts. option_map_or (λ f. from_verdict (check_tree (tree.call f ts))) (function_named text) (fails (unknown_function text))
   build (grammar.aggregate op text c ds) =
-      build_all ds giving λ ts. known (clause_value c) giving λ m. from_checked_verdict (aggregate_args op m ts)
+      build_all ds giving λ ts. known (if_given (λ (before, g). grouping_value g) c) giving λ m. from_checked_verdict (aggregate_args op m ts)
   build (grammar.postfixed d p) = build d giving λ t. build_postfix t p
-  build (grammar.unary op text d) = build d giving λ t. build_unary op t
+  build (grammar.unary op text d) = build d giving λ t. if op == T_SUB then from_checked_verdict (minus t) else gives t
   build (grammar.binary op text m l r) =
       build l giving λ x. build r giving λ y. known (modifier_value m) giving λ z. from_verdict (check_tree (tree.binary op x y z))
 

@@ -11,13 +11,9 @@ use Rattle.promql_syntax.specs.Asking.{EndsIn}
 use Rattle.promql_syntax.specs.BuildErrors.{BuildError, at, check, unknown_function}
 use Rattle.promql_syntax.specs.Building.{build}
 
--- an expression in another, and how many tokens come after it
-pub record Subexpression : Type 0 where
-  pub derivation : Derivation
-  pub after : ℕ
-
-abbrev pub here : ℕ → Derivation → Subexpression
-here k d = record { derivation = d; after = k }
+-- how many tokens come after an expression in another, and the expression
+abbrev pub Subexpression : Type 0
+Subexpression = (after : ℕ) × Derivation
 
 -- the tokens of arguments and of the commas before them
 abbrev pub rest_count : Arguments → ℕ
@@ -27,16 +23,16 @@ rest_count (grammar.more d ds) = 1 + (length (yield d) + rest_count ds)
 abbrev mutual
   -- those of an expression that k tokens come after, in the order in which they are built: itself after its parts
   pub subexpressions : ℕ → Derivation → List Subexpression
-  subexpressions k (grammar.paren d) = subexpressions (1 + k) d ++ here k (grammar.paren d) ∷ []
-  subexpressions k (grammar.call w text ds) = subexpressions_of (1 + k) ds ++ here k (grammar.call w text ds) ∷ []
+  subexpressions k (grammar.paren d) = subexpressions (1 + k) d ++ (k, grammar.paren d) ∷ []
+  subexpressions k (grammar.call w text ds) = subexpressions_of (1 + k) ds ++ (k, grammar.call w text ds) ∷ []
   subexpressions k (grammar.aggregate op text c ds) =
-      subexpressions_of (1 + (length (yield_after c) + k)) ds ++ here k (grammar.aggregate op text c ds) ∷ []
-  subexpressions k (grammar.postfixed d p) = subexpressions (length (yield_postfix p) + k) d ++ here k (grammar.postfixed d p) ∷ []
-  subexpressions k (grammar.unary op text d) = subexpressions k d ++ here k (grammar.unary op text d) ∷ []
+      subexpressions_of (1 + (length (yield_after c) + k)) ds ++ (k, grammar.aggregate op text c ds) ∷ []
+  subexpressions k (grammar.postfixed d p) = subexpressions (length (yield_postfix p) + k) d ++ (k, grammar.postfixed d p) ∷ []
+  subexpressions k (grammar.unary op text d) = subexpressions k d ++ (k, grammar.unary op text d) ∷ []
   subexpressions k (grammar.binary op text m l r) =
       (subexpressions (1 + (length (yield_modifier m) + (length (yield r) + k))) l ++ subexpressions k r)
-      ++ here k (grammar.binary op text m l r) ∷ []
-  subexpressions k d = here k d ∷ []
+      ++ (k, grammar.binary op text m l r) ∷ []
+  subexpressions k d = (k, d) ∷ []
 
   -- those of arguments that k tokens come after
   pub subexpressions_of : ℕ → Arguments → List Subexpression
@@ -44,12 +40,12 @@ abbrev mutual
   subexpressions_of k (grammar.more d ds) = subexpressions (rest_count ds + k) d ++ subexpressions_of k ds
 
 abbrev pub Builds : Subexpression → Type 0
-Builds sub = (t : Tree) × EndsIn (build sub.derivation) (Ok t)
+Builds (after, d) = (t : Tree) × EndsIn (build d) (Ok t)
 
 -- the first of these that does not build has the fault
 abbrev pub IsFirstFault : BuildError → List Subexpression → Subexpression → Type 0
 IsFirstFault fault subs sub =
-    (before rest : List Subexpression) × (subs ≡ before ++ sub ∷ rest) × All Builds before × EndsIn (build sub.derivation) (Err fault)
+    (before rest : List Subexpression) × (subs ≡ before ++ sub ∷ rest) × All Builds before × EndsIn (build sub.1) (Err fault)
 
 -- the tokens that a fault of an expression is about, where it is told which: how many are left from the first of them, and after the last
 abbrev modifier_tokens : ℕ → part.Modifier → Derivation → Option (ℕ × ℕ)
@@ -57,7 +53,7 @@ modifier_tokens k m r = Some (length (yield_modifier m) + (length (yield r) + k)
 
 abbrev pub fault_tokens : BuildError → ℕ → Derivation → Option (ℕ × ℕ)
 fault_tokens (unknown_function name) k (grammar.call w text ds) =
-    Some (2 + (length (yield_arguments ds) + k), 1 + (length (yield_arguments ds) + k))
+    Some (2 + (length (yield_arguments [] ds) + k), 1 + (length (yield_arguments [] ds) + k))
 fault_tokens (at fault) k (grammar.postfixed d (part.at_number s text)) = Some (length (yield_signed s) + (1 + k), k)
 fault_tokens (check (node fault)) k (grammar.postfixed d p) = Some (length (yield_postfix p) + k, k)
 fault_tokens (check bool_modifier) k (grammar.binary op text m l r) = modifier_tokens k m r

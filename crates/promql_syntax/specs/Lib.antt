@@ -3,6 +3,7 @@ pub mod BuildErrors
 pub mod Asking
 pub mod PartBuilding
 pub mod Building
+pub mod PartWords
 pub mod FaultTokens
 pub mod Placing
 pub mod ParsesPart

@@ -54,11 +54,8 @@ pub record Derives (text : Text) (d : Derivation) : Type 0 where
   pub spells : on_result (map symbol_of) (tokens text) ≡ Ok (yield d)
 
 -- a derivation of the text that is low enough builds the tree, with one answer for each pattern
-pub record HasTree (g : Text → regex.Answer) (text : Text) (t : Tree) : Type 0 where
-  pub derivation : Derivation
-  pub derives : Derives text derivation
-  pub low : height derivation ≤ MAX_DEPTH
-  pub builds : under g (build derivation) ≡ Ok t
+abbrev pub HasTree : (Text → regex.Answer) → Text → Tree → Type 0
+HasTree g text t = (d : Derivation) × Derives text d × (height d ≤ MAX_DEPTH) × (under g (build d) ≡ Ok t)
 
 -- `regex` allows these answers, and with them the answer is what is built: where it is a tree or a fault of building, it
 -- is, and where there is a derivation, nothing else is; as well if each pattern has one answer, and then the one-line text of

@@ -1,5 +1,5 @@
 -- What the parser's functions return, beside what parsing gives. Private: nothing rests on believing it.
-use Rattle.std.specs.Prelude.{◌≡◌, ◌+◌, ◌<◌, ◌≤◌, ◌^◌, ℕ, Bool, true, length, List, All, Option, Some, None, Result, Ok, Err, MatchResult}
+use Rattle.std.specs.Prelude.{◌≡◌, ◌+◌, ◌<◌, ◌≤◌, ◌^◌, ℕ, Bool, true, length, List, [], All, Option, Some, None, Result, Ok, Err, MatchResult}
 use Rattle.promql_grammar.specs.Failures.{Fails, Failure}
 use Rattle.promql_ast.specs.Faults.{Verdict, passes, rejected}
 use Rattle.promql_ast.specs.Tree.{Tree, Trees}
@@ -51,7 +51,7 @@ append_derivation (grammar.more e ds) d = grammar.more e (append_derivation ds d
 pub record IsFaultIn (n : ℕ) (subs : List Subexpression) (e : code.BuildError) : Type 0 where
   pub sub : Subexpression
   pub first : IsFirstFault (build_error_of e) subs sub
-  pub place : AreTokens n (fault_tokens (build_error_of e) sub.after sub.derivation) e.place
+  pub place : AreTokens n (fault_tokens (build_error_of e) sub.0 sub.1) e.place
 
 -- all of these build, or the first that does not has the error
 abbrev pub IsPlaced : {V : Type 0} → ℕ → List Subexpression → Result V (Box code.BuildError Global) → Type 0
@@ -79,7 +79,7 @@ pub record ParsesExpr (builds : Bool) (n : ℕ) (parsed : ParsedExpr) (rest : Li
 pub record ParsesArgs (builds : Bool) (n : ℕ) (args : ParsedArgs) (ts rest : List Symbol) (read : Read grammar.Arguments) : Type 0 where
   pub derivations : grammar.Arguments
   pub is : read ≡ Ok (derivations, rest)
-  pub taken : length ts ≡ length (grammar.yield_arguments derivations) + length rest
+  pub taken : length ts ≡ length (grammar.yield_arguments [] derivations) + length rest
   pub built : AreArgsOf builds n (1 + length rest) args derivations
 
 -- a base was parsed, whatever postfixes follow: at most k, up to height n

@@ -1,6 +1,7 @@
 -- What the parts of an expression build (docs/reference/grammar.md, "Building"): each from left to right, up to its
 -- first error.
 use Rattle.std.specs.Prelude.{ℕ, Bool, true, false, if◌then◌else◌, Option, Some, None, is_some, ok_or, List, [], ◌∷◌, Result, Ok, codes}
+use Rattle.std.specs.Option.{option_map_or}
 use Rattle.std.specs.Result.{result_map_both}
 use Rattle.promql_text.specs.Texts.{Text}
 use Rattle.promql_text.specs.declared.number.Number.{Number}
@@ -25,6 +26,11 @@ use Rattle.promql_syntax.specs.BuildErrors.{BuildError, number, quoted, duration
 abbrev pub on_error : {A E F : Type 0} → (F → E) → Result A F → Result A E
 on_error error result = result_map_both (λ x. x) error result
 
+-- the value of a part, if there is one
+abbrev pub if_given : {A B : Type 0} → (A → Result B BuildError) → Option A → Result (Option B) BuildError
+if_given value None = Ok None
+if_given value (Some part) = value part then λ x. Ok (Some x)
+
 -- "Strings"
 abbrev pub string_value : Text → Result Text BuildError
 string_value text = ok_or (unquoted_text text) quoted
@@ -45,10 +51,6 @@ abbrev pub time_value : part.Time → Result ℕ BuildError
 time_value (part.seconds text) = duration_value text
 time_value (part.duration text) = duration_value text
 
-abbrev pub step_value : Option part.Time → Result (Option ℕ) BuildError
-step_value None = Ok None
-step_value (Some t) = time_value t then λ n. Ok (Some n)
-
 -- "Offset and @"
 abbrev pub shift_value : part.Signed → part.Time → Result Shift BuildError
 shift_value s t = time_value t then λ n. Ok (if is_minus s then ahead n else back n)
@@ -68,29 +70,19 @@ label_values (part.next k text ls) = label_value k text then λ l. label_values 
 
 -- "Clauses"
 abbrev pub grouping_value : part.Grouping → Result Clause BuildError
-grouping_value (part.grouping by text ls) = label_values ls then λ x. Ok (if by then including x else excluding x)
-
-abbrev pub clause_value : part.Clause → Result (Option Clause) BuildError
-clause_value part.no_clause = Ok None
-clause_value (part.before g) = grouping_value g then λ c. Ok (Some c)
-clause_value (part.after g) = grouping_value g then λ c. Ok (Some c)
+grouping_value (by, text, ls) = label_values ls then λ x. Ok (if by then including x else excluding x)
 
 -- "Modifiers"
-abbrev pub cardinality : Bool → List Text → Cardinality
-cardinality left ls = if left then many_to_one ls else one_to_many ls
-
 abbrev pub group_value : part.Group → Result Cardinality BuildError
-group_value part.no_group = Ok one_to_one
-group_value (part.bare left text) = Ok (cardinality left [])
-group_value (part.listed left text ls) = label_values ls then λ x. Ok (cardinality left x)
+group_value None = Ok one_to_one
+group_value (Some (left, text, ls)) = option_map_or label_values ls (Ok []) then λ x. Ok (if left then many_to_one x else one_to_many x)
 
 abbrev pub matching_value : part.Matching → Result (Cardinality × Option Clause) BuildError
-matching_value part.no_matching = Ok (one_to_one, None)
-matching_value (part.matching on text ls g) =
-    label_values ls then λ x. group_value g then λ c. Ok (c, Some (if on then including x else excluding x))
+matching_value None = Ok (one_to_one, None)
+matching_value (Some (on, text, ls, g)) = label_values ls then λ x. group_value g then λ c. Ok (c, Some (if on then including x else excluding x))
 
 abbrev pub fill_value : part.FillValue → Result Number BuildError
-fill_value v = signed_number v.sign v.number
+fill_value (s, text) = signed_number s text
 
 -- the right side's value comes first
 abbrev pub fills_value : part.Fills → Result Fills BuildError
@@ -100,15 +92,10 @@ fills_value (part.one left text v) = fill_value v then λ n. Ok (if left then fi
 fills_value (part.two left text v text' w) =
     fill_value v then λ n. fill_value w then λ m. Ok (if left then fills (Some m) (Some n) else fills (Some n) (Some m))
 
--- nothing comes between the operator and its right side
-abbrev pub is_blank : Option Text → part.Matching → part.Fills → Bool
-is_blank None part.no_matching part.no_fill = true
-is_blank flag m f = false
-
+-- none, where nothing comes between the operator and its right side
 abbrev pub modifier_value : part.Modifier → Result (Option Matching) BuildError
-modifier_value m =
-    if is_blank m.flag m.matching m.fills then Ok None
-    else (matching_value m.matching then λ c. fills_value m.fills then λ f. Ok (Some (matching c.0 c.1 (is_some m.flag) f)))
+modifier_value (None, None, part.no_fill) = Ok None
+modifier_value (flag, m, f) = matching_value m then λ c. fills_value f then λ v. Ok (Some (matching c.0 c.1 (is_some flag) v))
 
 -- "Selectors": each matcher whole before the next, a pattern after its string
 abbrev pub pattern_operator : (Text → Operator) → Text → Answer → Asking Operator
@@ -128,15 +115,12 @@ item_value (part.matcher is_quoted text s string) =
 item_value (part.lone text) = known (string_value text) giving λ name. gives (plain_matcher equal (codes "__name__") name)
 
 abbrev pub append_matcher : part.Separator → PlainMatchers → PlainMatcher → PlainMatchers
-append_matcher part.comma = append_plain
-append_matcher (part.or text) = appended_or
+append_matcher s = if is_some s then appended_or else append_plain
 
 -- the matchers so far, and what comes before the next
 abbrev pub items_value : PlainMatchers → part.Separator → part.Items → Asking PlainMatchers
-items_value cs s (part.last_item i) = item_value i giving λ c. gives (append_matcher s cs c)
-items_value cs s (part.last_item_comma i) = item_value i giving λ c. gives (append_matcher s cs c)
+items_value cs s (part.last_item i comma) = item_value i giving λ c. gives (append_matcher s cs c)
 items_value cs s (part.next_item i t is) = item_value i giving λ c. items_value (append_matcher s cs c) t is
 
 abbrev pub braces_value : part.Braces → Asking PlainMatchers
-braces_value part.no_item = gives (plain_matchers [] [])
-braces_value (part.items is) = items_value (plain_matchers [] []) part.comma is
+braces_value b = option_map_or (items_value (plain_matchers [] []) None) b (gives (plain_matchers [] []))

@@ -1,5 +1,5 @@
 -- Where a fault is, by the parts of its node. Private: nothing rests on believing it.
-use Rattle.std.specs.Prelude.{◌≡◌, ℕ, ◌+◌, ◌<◌, ◌^◌, Option, Some, None, IfSome, length}
+use Rattle.std.specs.Prelude.{◌≡◌, ℕ, ◌+◌, ◌<◌, ◌^◌, Option, Some, None, IfSome, [], length}
 use Rattle.std.specs.declared.alloc.Global.{Global}
 use Rattle.std.specs.declared.boxed.Box.{Box}
 use Rattle.promql_grammar.specs.Grammar.{Arguments, Derivation, yield, yield_arguments}
@@ -39,7 +39,7 @@ IsPostfixAt n k extent p = n < 2 ^ 64 → (extent.operator + (length (yield_post
 
 -- a name and the arguments after it, where k of n tokens come after them
 abbrev pub IsCallAt : ℕ → ℕ → Extent → Arguments → Type 0
-IsCallAt n k extent ds = n < 2 ^ 64 → extent.start + (2 + (length (yield_arguments ds) + k)) ≡ n
+IsCallAt n k extent ds = n < 2 ^ 64 → extent.start + (2 + (length (yield_arguments [] ds) + k)) ≡ n
 
 -- the tokens from one up to another, by how many of n are left
 abbrev pub AreTokens : ℕ → Option (ℕ × ℕ) → Place → Type 0

@@ -26,8 +26,9 @@ use Rattle.promql_ast.specs.declared.at_modifier.AtFault.{AtFault}
 use Rattle.promql_ast.specs.declared.at_modifier.AtModifier.{AtModifier}
 use Rattle.promql_syntax.specs.declared.grammar.build_error.BuildError as build_errors
 use Rattle.promql_syntax.specs.BuildErrors.{BuildError, at, build_error_of, view_result}
-use Rattle.promql_syntax.specs.PartBuilding.{on_error, time_value, step_value, moment_value, shift_value}
+use Rattle.promql_syntax.specs.PartBuilding.{on_error, time_value, moment_value, shift_value}
 use Rattle.promql_syntax.specs.Placing.{AreTokens}
+use Rattle.promql_syntax.specs.PartWords.{step_value}
 
 -- the kinds with which a postfix begins
 abbrev pub starts_postfix : TokenKind → Bool

@@ -22,9 +22,9 @@ use Rattle.promql_ast.specs.Selectors.{selector}
 use Rattle.promql_ast.specs.Tree.{Tree, aggregate, unary, binary, paren, subquery, number, string, vector, matrix, call, Trees, first_tree}
 use Rattle.promql_ast.specs.check.BinaryChecks.{checked_binary}
 use Rattle.promql_syntax.specs.Asking.{gives, ◌giving◌, known, under}
-use Rattle.promql_syntax.specs.Building.{build, build_all, build_call, from_verdict, from_checked_verdict, selector_tree, build_postfix, build_unary}
+use Rattle.promql_syntax.specs.Building.{build, build_all, from_verdict, from_checked_verdict, selector_tree, build_postfix}
 use Rattle.promql_syntax.specs.Postfixes.{bound_moment, range_mode}
-use Rattle.promql_syntax.specs.PartBuilding.{braces_value, clause_value, duration_value, modifier_value, moment_value, number_value, shift_value, step_value, string_value, time_value}
+use Rattle.promql_syntax.specs.PartBuilding.{braces_value, duration_value, modifier_value, moment_value, number_value, shift_value, string_value, time_value}
 use Rattle.promql_syntax.specs.Atoms.{any_braces_value}
 use Rattle.promql_syntax.proofs.readback.Derive.{AllHaveWords, HasWords, IsName}
 use Rattle.promql_syntax.proofs.readback.Canonical.{AllKept, Canon, Keeps, canon_at, canon_mode, canon_offset, core, some_height, whole}
@@ -40,6 +40,7 @@ use Rattle.promql_rewrite.specs.Answered.{IsAnswered}
 use Rattle.promql_rewrite.specs.Enforcing.{all_enforced, enforced, enforced_matchers}
 use Rattle.promql_rewrite.proofs.enforcement.EnforcedChecks.{args_enforced, at_enforced, check_enforced, enforced_verdict, mode_enforced, offset_enforced}
 use Rattle.promql_rewrite.proofs.enforcement.EnforcedMatchers.{enforced_stand, name_passes}
+use Rattle.promql_syntax.specs.PartWords.{build_call, build_unary, clause_value, step_value}
 
 module _ (g : Text → Answer) (c : PlainMatcher) (answered : IsAnswered g c) (other : name_of c ≢ codes "__name__") where
   -- ---- selectors, and trees without one

@@ -22,15 +22,16 @@ use Rattle.promql_ast.specs.check.BinaryChecks.{checked_binary, settle_matching,
 use Rattle.promql_ast.specs.declared.range_mode.RangeMode.{RangeMode}
 use Rattle.promql_ast.specs.declared.range_mode.RangeMode.TheVariants.{Plain}
 use Rattle.promql_syntax.specs.Asking.{gives, ◌giving◌, known, under}
-use Rattle.promql_syntax.specs.Building.{build, build_all, build_call, from_verdict, from_checked_verdict, selector_tree, build_postfix, build_unary}
+use Rattle.promql_syntax.specs.Building.{build, build_all, from_verdict, from_checked_verdict, selector_tree, build_postfix}
 use Rattle.promql_syntax.specs.Postfixes.{bound_moment, range_mode}
-use Rattle.promql_syntax.specs.PartBuilding.{braces_value, clause_value, duration_value, modifier_value, moment_value, number_value, shift_value, step_value, string_value, time_value}
+use Rattle.promql_syntax.specs.PartBuilding.{braces_value, duration_value, modifier_value, moment_value, number_value, shift_value, string_value, time_value}
 use Rattle.promql_syntax.specs.Atoms.{any_braces_value}
 use Rattle.promql_syntax.proofs.readback.CanonicalNodes.{selector_passes}
 use Rattle.promql_syntax.proofs.readback.CheckedAgain.{aggregate_again, aggregates, arguments, call_again, same_tree, subquery_again, unary_again}
 use Rattle.promql_syntax.proofs.printed.PrintedModifiers.{IsWritten, binary_checked, modifier_is}
 use Rattle.promql_syntax.proofs.building.SingleAnswers.{checks_pass, giving_steps, known_steps, passing_passes, same_ok}
 use Rattle.promql_rewrite.specs.PrintableNodes.{has_param}
+use Rattle.promql_syntax.specs.PartWords.{build_call, build_unary, clause_value, step_value}
 
 abbrev pub IsNoNumber : Tree → Type 0
 IsNoNumber (number n) = ⊥

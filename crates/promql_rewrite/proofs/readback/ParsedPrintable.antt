@@ -282,10 +282,10 @@ module _ (g : Text → Answer) where
 
   pub parsed_printable : CheckedTyped → (source : Text) (t : Tree) → HasTree g source t → NodesArePrintable g t
   parsed_printable law source t h =
-      let s = h.derives in
-      let k = keeps g h.derivation t s.formed (has_words source h.derivation s) h.builds in
+      let s = h.1 in
+      let k = keeps g h.0 t s.formed (has_words source h.0 s) h.3 in
       record {
-        typed = (all_under (IsGood (grammar.height h.derivation)) (build h.derivation) t (build_good law h.derivation) h.builds).typed;
-        low = omega (arith, printed_low t, k.low, h.low);
-        nodes = nodes t k.printable k.formed (built g h.derivation t h.builds);
+        typed = (all_under (IsGood (grammar.height h.0)) (build h.0) t (build_good law h.0) h.3).typed;
+        low = omega (arith, printed_low t, k.low, h.2);
+        nodes = nodes t k.printable k.formed (built g h.0 t h.3);
       }

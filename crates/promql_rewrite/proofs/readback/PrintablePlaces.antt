@@ -67,7 +67,7 @@ abbrev some_time : part.Time
 some_time = part.seconds []
 
 abbrev no_modifier : part.Modifier
-no_modifier = record { flag = None; matching = part.no_matching; fills = part.no_fill }
+no_modifier = (None, None, part.no_fill)
 
 module _ (g : Text → Answer) where
   -- a derivation that keeps the tree, is no higher than the printed tree, and fits where the tree fits
@@ -234,10 +234,10 @@ module _ (g : Text → Answer) where
   aggregate_placed : (op : ℕ) (e : Tree) (p : MaybeTree) (m : Option Clause) → TypedAggregate op (type_of e) (maybe_type p) → has_param p ≡ is_aggregator_with_param op → MaybePlaced p → Placed e → Placed (aggregate op e p m)
   aggregate_placed op e p m typed h maybe q =
       let ps = arguments_placed p e maybe q in
-      let d = grammar.aggregate op [] part.no_clause ps.derivations in
+      let d = grammar.aggregate op [] None ps.derivations in
       let again = aggregate_again op e p m (normal_clause m) (aggregate op e p m) (aggregate_passes op e p m typed) in
       closed d (aggregate op e p m) (tt, ps.formed) tt
-      (keeps_aggregate g op [] part.no_clause ps.derivations m e p typed.aggregator ps.keeps (arguments_made op p e h) again.again)
+      (keeps_aggregate g op [] None ps.derivations m e p typed.aggregator ps.keeps (arguments_made op p e h) again.again)
       (arguments_low p e (grammar.greatest_height ps.derivations) ps.low)
 
   -- ---- trees

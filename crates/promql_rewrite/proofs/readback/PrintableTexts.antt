@@ -22,7 +22,7 @@ module _ (g : Text → Answer) (t : Tree) (h : NodesArePrintable g t) where
   place = placed g t h.typed h.nodes
 
   has_normal : (z : Text) → Derives z (derive t) → HasTree g z (normal t)
-  has_normal z derives = let p = place in let k = p.keeps in record { derivation = derive t; derives = derives; low = omega (arith, k.low, p.low, h.low); builds = k.again }
+  has_normal z derives = let p = place in let k = p.keeps in (derive t, derives, omega (arith, k.low, p.low, h.low), k.again)
 
   pub printable_line : HasTree g (text t) (normal t)
   printable_line =

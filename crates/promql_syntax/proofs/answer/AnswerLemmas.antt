@@ -11,7 +11,6 @@ use Rattle.promql_grammar.specs.declared.read_error.ReadError.{ReadError}
 use Rattle.promql_grammar.specs.declared.read_error.ReadError.TheVariants as read_errors
 use Rattle.promql_grammar.specs.Results.{on_result}
 use Rattle.promql_grammar.specs.Symbols.{Symbol, symbol, symbol_of, token_kind, punct, word, begins, may_begin, is_plus_or_minus, is_word_operator}
-use Rattle.promql_grammar.specs.GrammarParts.{no_item}
 use Rattle.promql_grammar.specs.Grammar.{Derivation, number, duration, string, selector, nameless, paren, postfixed, unary, yield, height, IsWellFormed}
 use Rattle.promql_grammar.specs.SymbolsLeft.{fault_symbol}
 use Rattle.promql_grammar.specs.SourceTokens.{Token, tokens, has_any}
@@ -115,7 +114,7 @@ front_derivation kind.Duration text us may = (duration text, [], tt, refl)
 front_derivation kind.String text us may = (string text, [], tt, refl)
 front_derivation (kind.Operator op) text us may = operator_front op text (is_plus_or_minus op) (is_word_operator op) refl refl may
 front_derivation kind.LeftParen text us may = (paren (number []), word kind.Number [] ∷ punct kind.RightParen ∷ [], tt, refl)
-front_derivation kind.LeftBrace text us may = (nameless no_item, punct kind.RightBrace ∷ [], tt, refl)
+front_derivation kind.LeftBrace text us may = (nameless None, punct kind.RightBrace ∷ [], tt, refl)
 front_derivation kind.Identifier text us may = (selector kind.Identifier text None, [], refl, refl)
 front_derivation kind.MetricIdentifier text us may = (selector kind.MetricIdentifier text None, [], refl, refl)
 front_derivation (kind.Aggregator op) text us may = (selector (kind.Aggregator op) text None, [], refl, refl)
@@ -180,12 +179,12 @@ module _ (text : Text) (list : List Token) (is : tokens text ≡ Ok list) (some 
     single = λ g single d derives low.
         ap (on_error fault) (ends_under g (build d) whole.answers r
         (subst (λ e. Ends (build e) whole.answers r) (one_derivation whole.derivation d whole.formed derives.formed (whole.spells ∙ sym (yield_is d derives))) whole.is) single);
-    reads_back = λ g single t same. text_reads_back g text t (record {
-      derivation = whole.derivation;
-      derives = derives_of whole.derivation whole.formed whole.spells;
-      low = whole.low;
-      builds = sym (ends_under g (build whole.derivation) whole.answers r whole.is single) ∙ same_result r (Ok t) same;
-    });
+    reads_back = λ g single t same. text_reads_back g text t (
+      whole.derivation,
+      derives_of whole.derivation whole.formed whole.spells,
+      whole.low,
+      sym (ends_under g (build whole.derivation) whole.answers r whole.is single) ∙ same_result r (Ok t) same,
+    );
   }
 
   whole_good : CheckedTyped → (t : Tree) (whole : IsQueryValue 512 ts (Ok t)) → IsGood (height whole.derivation) t

@@ -11,7 +11,7 @@ use Rattle.promql_syntax.specs.Asking.{EndsIn}
 use Rattle.promql_syntax.specs.BuildErrors.{BuildError, number, quoted, duration, at, pattern, unknown_function, check, build_error_of}
 use Rattle.promql_syntax.specs.Building.{build}
 use Rattle.promql_ast.specs.View.{tree_of}
-use Rattle.promql_syntax.specs.FaultTokens.{Builds, Subexpression, fault_tokens, here}
+use Rattle.promql_syntax.specs.FaultTokens.{Builds, Subexpression, fault_tokens}
 use Rattle.promql_syntax.specs.ParsesExpr.{IsFaultIn, IsPlaced, view_boxed}
 use Rattle.promql_syntax.specs.Placing.{AreTokens}
 use Rattle.promql_syntax.specs.declared.grammar.build_error.BuildError as code
@@ -61,10 +61,10 @@ passed_on n subs more held made e is made_is placed =
 -- ---- a fault of its own
 
 pub own_placed : (n k : ℕ) (d : grammar.Derivation) (parts : List Subexpression) (made : Result (Box Expr Global) (Box code.BuildError Global)) → All Builds parts → EndsIn (build d) (view_boxed made)
-    → ((e : Box code.BuildError Global) → made ≡ Err e → AreTokens n (fault_tokens (build_error_of e.value) k d) e.value.place) → IsPlaced n (parts ++ here k d ∷ []) made
-own_placed n k d parts (Ok x) built ends place = All-push Builds parts (here k d) built (tree_of x.value, ends)
+    → ((e : Box code.BuildError Global) → made ≡ Err e → AreTokens n (fault_tokens (build_error_of e.value) k d) e.value.place) → IsPlaced n (parts ++ (k, d) ∷ []) made
+own_placed n k d parts (Ok x) built ends place = All-push Builds parts (k, d) built (tree_of x.value, ends)
 own_placed n k d parts (Err e) built ends place = record {
-  sub = here k d;
+  sub = (k, d);
   first = (parts, [], refl, built, ends);
   place = place e refl;
 }
@@ -96,5 +96,5 @@ none_whole d k (check f) is = refl
 pub no_tokens : (n : ℕ) (left : _) (place : Place) → left ≡ None → AreTokens n left place
 no_tokens n left place none = subst (λ o. AreTokens n o place) (sym none) tt
 
-pub whole_placed : (n k : ℕ) (d : grammar.Derivation) (parts : List Subexpression) (made : Result (Box Expr Global) (Box code.BuildError Global)) → IsWhole d → All Builds parts → EndsIn (build d) (view_boxed made) → IsPlaced n (parts ++ here k d ∷ []) made
+pub whole_placed : (n k : ℕ) (d : grammar.Derivation) (parts : List Subexpression) (made : Result (Box Expr Global) (Box code.BuildError Global)) → IsWhole d → All Builds parts → EndsIn (build d) (view_boxed made) → IsPlaced n (parts ++ (k, d) ∷ []) made
 whole_placed n k d parts made whole built ends = own_placed n k d parts made built ends (λ e is. no_tokens n _ e.value.place (none_whole d k (build_error_of e.value) whole))

@@ -18,7 +18,7 @@ use Rattle.promql_grammar.specs.GrammarParts.{yield_postfix}
 use Rattle.promql_syntax.specs.Asking.{EndsIn}
 use Rattle.promql_syntax.specs.BuildErrors.{BuildError, number, quoted, duration, at, pattern, unknown_function, check, build_error_of, view_result}
 use Rattle.promql_syntax.specs.Building.{build}
-use Rattle.promql_syntax.specs.FaultTokens.{Builds, Subexpression, fault_tokens, here}
+use Rattle.promql_syntax.specs.FaultTokens.{Builds, Subexpression, fault_tokens}
 use Rattle.promql_syntax.specs.ParsesExpr.{IsPlaced, view_boxed}
 use Rattle.promql_syntax.specs.PartBuilding.{modifier_value}
 use Rattle.promql_syntax.specs.Placing.{AreTokens, HasModifierPlace, IsCallAt, IsCheck, IsModifierAt, IsPostfixAt, modifier_place, tokens_between}
@@ -40,7 +40,7 @@ of_error P r e is holds = subst (λ v. IfErr v P) is holds
 
 -- an error that was made
 pub error_placed : (n k : ℕ) (d : grammar.Derivation) (parts : List Subexpression) (made : Result (Box Expr Global) (Box code.BuildError Global)) (e : Box code.BuildError Global) → made ≡ Err e → All Builds parts → EndsIn (build d) (view_boxed made)
-    → AreTokens n (fault_tokens (build_error_of e.value) k d) e.value.place → IsPlaced n (parts ++ here k d ∷ []) made
+    → AreTokens n (fault_tokens (build_error_of e.value) k d) e.value.place → IsPlaced n (parts ++ (k, d) ∷ []) made
 error_placed n k d parts made e is built ends place =
     own_placed n k d parts made built ends (λ f same. let one : f ≡ e = cc in subst (λ g. AreTokens n (fault_tokens (build_error_of g.value) k d) g.value.place) (sym one) place)
 

@@ -23,19 +23,21 @@ use Rattle.promql_ast.specs.check.VectorChecks.{selector_fault}
 use Rattle.promql_ast.specs.Shifts.{Moment, Shift}
 use Rattle.promql_ast.specs.declared.range_mode.RangeMode.{RangeMode}
 use Rattle.promql_ast.specs.declared.range_mode.RangeMode.TheVariants.{Plain}
+use Rattle.promql_ast.specs.Fold.{maybe_within, all_within}
 use Rattle.promql_ast.specs.Faults.{Fault, subquery_type, Verdict, passes, rejected as rejects}
 use Rattle.promql_ast.specs.Normal.{normal, maybe_normal, all_normal, normal_selector}
 use Rattle.promql_ast.specs.Selectors.{Selector, selector}
 use Rattle.promql_ast.specs.Tree.{Tree, aggregate, unary, binary, paren, subquery, number, string, vector, matrix, call, extension, MaybeTree, absent, present, Trees, no_trees, first_tree}
 use Rattle.promql_syntax.specs.Asking.{Asking, gives, fails, asks, ◌giving◌, known, Asked, Ends}
-use Rattle.promql_syntax.specs.Building.{build, build_all, build_call, from_verdict, from_checked_verdict, build_postfix}
+use Rattle.promql_syntax.specs.Building.{build, build_all, from_verdict, from_checked_verdict, build_postfix}
 use Rattle.promql_syntax.specs.Postfixes.{bound_moment, range_mode}
 use Rattle.promql_syntax.specs.BuildErrors.{BuildError, check, pattern, unknown_function}
-use Rattle.promql_syntax.specs.PartBuilding.{append_matcher, braces_value, clause_value, duration_value, item_value, items_value, label_value, modifier_value, moment_value, number_value, operator_value, pattern_operator, shift_value, step_value, string_value, time_value}
+use Rattle.promql_syntax.specs.PartBuilding.{append_matcher, braces_value, duration_value, item_value, items_value, label_value, modifier_value, moment_value, number_value, operator_value, pattern_operator, shift_value, string_value, time_value}
 use Rattle.promql_syntax.specs.Atoms.{any_braces_value}
 use Rattle.promql_syntax.proofs.readback.CheckedAgain.{aggregate_again, aggregates, arguments, call_again, same_tree, unary_again}
 use Rattle.promql_syntax.proofs.printed.PrintedModifiers.{binary_checked}
-use Rattle.promql_syntax.specs.TreePatterns.{AllPatterns, HasSuchPattern, MatcherPattern, MatchersPatterns, MaybePatterns, SelectorPatterns, TreePatterns}
+use Rattle.promql_syntax.specs.TreePatterns.{MatcherPattern, NodePatterns, SelectorPatterns, TreePatterns}
+use Rattle.promql_syntax.specs.PartWords.{build_call, clause_value, step_value}
 
 -- an end of two steps is an end of each, in turn
 record Splits {A B : Type 0} (m : Asking A) (f : A → Asking B) (answers : List Asked) (y : B) : Type 0 where
@@ -78,6 +80,22 @@ ListPatterns is_such = AllByRecursion (MatcherPattern is_such)
 
 abbrev GroupsPatterns : (Text → Bool) → List (List PlainMatcher) → Type 0
 GroupsPatterns is_such = AllByRecursion (ListPatterns is_such)
+
+abbrev MatchersPatterns : (Text → Bool) → PlainMatchers → Type 0
+MatchersPatterns is_such (plain_matchers plain groups) = ListPatterns is_such plain × GroupsPatterns is_such groups
+
+-- the pattern of an operator with this value
+abbrev HasSuchPattern : (Text → Bool) → Operator → Text → Type 0
+HasSuchPattern is_such (matches w) value = is_such value ≡ true
+HasSuchPattern is_such (matches_not w) value = is_such value ≡ true
+HasSuchPattern is_such _ value = Unit {0}
+
+-- of lists of trees
+abbrev MaybePatterns : (Text → Bool) → MaybeTree → Type 0
+MaybePatterns is_such = maybe_within (Unit {0}) (λ A B. A × B) (NodePatterns is_such)
+
+abbrev AllPatterns : (Text → Bool) → Trees → Type 0
+AllPatterns is_such = all_within (Unit {0}) (λ A B. A × B) (NodePatterns is_such)
 
 module _ (is_such : Text → Bool) where
   -- each answer is about such a text
@@ -144,6 +162,11 @@ module _ (is_such : Text → Bool) where
   operator_such part.equal_regex value = asked_such matches value (λ w. refl)
   operator_such part.not_equal_regex value = asked_such matches_not value (λ w. refl)
 
+  operator_pattern : (op : Operator) (name value : Text) → MatcherPattern is_such (plain_matcher op name value) → HasSuchPattern is_such op value
+  operator_pattern (matches w) name value h = h
+  operator_pattern (matches_not w) name value h = h
+  operator_pattern op name value h = tt
+
   -- one matcher
   item_such : (i : part.Item) → AsksSuch (MatcherPattern is_such) (item_value i)
   item_such (part.matcher is_quoted text s quoted) =
@@ -151,7 +174,7 @@ module _ (is_such : Text → Bool) where
       (λ name. giving_such (λ value. Unit {0}) (MatcherPattern is_such) (known (string_value quoted)) _ (known_such (λ value. Unit {0}) (string_value quoted))
       (λ value. giving_such (λ op. HasSuchPattern is_such op value) (MatcherPattern is_such) (operator_value s value) _ (operator_such s value)
       (λ op. gives_such (MatcherPattern is_such) (plain_matcher op name value))
-      (λ op answers c h q. subst (MatcherPattern is_such) (given_value (plain_matcher op name value) answers c h) q))
+      (λ op answers c h q. operator_pattern op name value (subst (MatcherPattern is_such) (given_value (plain_matcher op name value) answers c h) q)))
       (λ value answers c h q. tt))
       (λ name answers c h q. tt)
   item_such (part.lone text) =
@@ -173,20 +196,20 @@ module _ (is_such : Text → Bool) where
   groups_pushed (g ∷ groups) more h = let rest = groups_pushed groups more h.1 in ((h.0, rest.0), rest.1)
 
   appended : (s : part.Separator) (cs : PlainMatchers) (c : PlainMatcher) → MatchersPatterns is_such (append_matcher s cs c) → MatchersPatterns is_such cs × MatcherPattern is_such c
-  appended part.comma (plain_matchers plain []) c h = let pushed = list_pushed plain c h.0 in ((pushed.0, tt), pushed.1)
-  appended part.comma (plain_matchers plain (g ∷ groups)) c h = let more = groups_grown g groups c h.1 in ((h.0, more.0), more.1)
-  appended (part.or text) (plain_matchers [] groups) c h = let more = groups_pushed groups ((c ∷ []) ∷ []) h.1 in ((tt, more.0), more.1.0.0)
-  appended (part.or text) (plain_matchers (p ∷ plain) groups) c h = let more = groups_pushed groups ((p ∷ plain) ∷ (c ∷ []) ∷ []) h.1 in ((more.1.0, more.0), more.1.1.0.0)
+  appended None (plain_matchers plain []) c h = let pushed = list_pushed plain c h.0 in ((pushed.0, tt), pushed.1)
+  appended None (plain_matchers plain (g ∷ groups)) c h = let more = groups_grown g groups c h.1 in ((h.0, more.0), more.1)
+  appended (Some text) (plain_matchers [] groups) c h = let more = groups_pushed groups ((c ∷ []) ∷ []) h.1 in ((tt, more.0), more.1.0.0)
+  appended (Some text) (plain_matchers (p ∷ plain) groups) c h = let more = groups_pushed groups ((p ∷ plain) ∷ (c ∷ []) ∷ []) h.1 in ((more.1.0, more.0), more.1.1.0.0)
 
   appended_end : (s : part.Separator) (cs : PlainMatchers) (c : PlainMatcher) (answers : List Asked) (y : PlainMatchers) → Ends (gives (append_matcher s cs c)) answers (Ok y) → MatchersPatterns is_such y → MatchersPatterns is_such cs × MatcherPattern is_such c
   appended_end s cs c answers y h q = appended s cs c (subst (MatchersPatterns is_such) (given_value (append_matcher s cs c) answers y h) q)
 
   -- what items end in has what came before them
   items_before : (cs : PlainMatchers) (s : part.Separator) (is : part.Items) (answers : List Asked) (y : PlainMatchers) → Ends (items_value cs s is) answers (Ok y) → MatchersPatterns is_such y → MatchersPatterns is_such cs
-  items_before cs s (part.last_item i) answers y h q =
+  items_before cs s (part.last_item i false) answers y h q =
       let steps = splits (item_value i) (λ c. gives (append_matcher s cs c)) answers y h in
       (appended_end s cs steps.value steps.others y steps.goes_on q).0
-  items_before cs s (part.last_item_comma i) answers y h q =
+  items_before cs s (part.last_item i true) answers y h q =
       let steps = splits (item_value i) (λ c. gives (append_matcher s cs c)) answers y h in
       (appended_end s cs steps.value steps.others y steps.goes_on q).0
   items_before cs s (part.next_item i t is) answers y h q =
@@ -194,10 +217,10 @@ module _ (is_such : Text → Bool) where
       (appended s cs steps.value (items_before (append_matcher s cs steps.value) t is steps.others y steps.goes_on q)).0
 
   items_such : (cs : PlainMatchers) (s : part.Separator) (is : part.Items) → AsksSuch (MatchersPatterns is_such) (items_value cs s is)
-  items_such cs s (part.last_item i) =
+  items_such cs s (part.last_item i false) =
       giving_such (MatcherPattern is_such) (MatchersPatterns is_such) (item_value i) _ (item_such i)
       (λ c. gives_such (MatchersPatterns is_such) (append_matcher s cs c)) (λ c answers y h q. (appended_end s cs c answers y h q).1)
-  items_such cs s (part.last_item_comma i) =
+  items_such cs s (part.last_item i true) =
       giving_such (MatcherPattern is_such) (MatchersPatterns is_such) (item_value i) _ (item_such i)
       (λ c. gives_such (MatchersPatterns is_such) (append_matcher s cs c)) (λ c answers y h q. (appended_end s cs c answers y h q).1)
   items_such cs s (part.next_item i t is) =
@@ -206,8 +229,8 @@ module _ (is_such : Text → Bool) where
       (λ c answers y h q. (appended s cs c (items_before (append_matcher s cs c) t is answers y h q)).1)
 
   braces_such : (b : part.Braces) → AsksSuch (MatchersPatterns is_such) (braces_value b)
-  braces_such part.no_item = gives_such (MatchersPatterns is_such) (plain_matchers [] [])
-  braces_such (part.items is) = items_such (plain_matchers [] []) part.comma is
+  braces_such None = gives_such (MatchersPatterns is_such) (plain_matchers [] [])
+  braces_such (Some is) = items_such (plain_matchers [] []) None is
 
   any_braces_such : (b : Option part.Braces) → AsksSuch (MatchersPatterns is_such) (any_braces_value b)
   any_braces_such None = gives_such (MatchersPatterns is_such) (plain_matchers [] [])
@@ -251,6 +274,9 @@ module _ (is_such : Text → Bool) where
   known_then : {A : Type 0} (r : Result A BuildError) (f : A → Asking Tree) → ((x : A) → AsksSuch (TreePatterns is_such) (f x)) → AsksSuch (TreePatterns is_such) (known r giving f)
   known_then r f more = giving_such (λ x. Unit {0}) (TreePatterns is_such) (known r) f (known_such (λ x. Unit {0}) r) more (λ x answers y h q. tt)
 
+  matchers_back : (name : Option Text) (cs : PlainMatchers) → TreePatterns is_such (vector (selector name cs None None)) → MatchersPatterns is_such cs
+  matchers_back name (plain_matchers plain groups) h = h
+
   -- ---- postfixes
 
   range_back : (s t : Tree) (n : ℕ) → with_range s n ≡ passes t → TreePatterns is_such t → TreePatterns is_such s
@@ -258,14 +284,14 @@ module _ (is_such : Text → Bool) where
   range_back s t n e q = cc
 
   at_back : (s t : Tree) (m : Moment) → at_given s m ≡ passes t → TreePatterns is_such t → TreePatterns is_such s
-  at_back (vector (selector name cs offset None)) t m e q = same_patterns (vector (selector name cs offset (Some m))) t (same_tree _ _ e) q
-  at_back (matrix (selector name cs offset None) range mode) t m e q = same_patterns (matrix (selector name cs offset (Some m)) range mode) t (same_tree _ _ e) q
+  at_back (vector (selector name (plain_matchers plain groups) offset None)) t m e q = same_patterns (vector (selector name (plain_matchers plain groups) offset (Some m))) t (same_tree _ _ e) q
+  at_back (matrix (selector name (plain_matchers plain groups) offset None) range mode) t m e q = same_patterns (matrix (selector name (plain_matchers plain groups) offset (Some m)) range mode) t (same_tree _ _ e) q
   at_back (subquery e offset None range step) t m h q = same_patterns (subquery e offset (Some m) range step) t (same_tree _ _ h) q
   at_back s t m e q = cc
 
   offset_back : (s t : Tree) (x : Shift) → offset_given s x ≡ passes t → TreePatterns is_such t → TreePatterns is_such s
-  offset_back (vector (selector name cs None at)) t x e q = same_patterns (vector (selector name cs (Some x) at)) t (same_tree _ _ e) q
-  offset_back (matrix (selector name cs None at) range mode) t x e q = same_patterns (matrix (selector name cs (Some x) at) range mode) t (same_tree _ _ e) q
+  offset_back (vector (selector name (plain_matchers plain groups) None at)) t x e q = same_patterns (vector (selector name (plain_matchers plain groups) (Some x) at)) t (same_tree _ _ e) q
+  offset_back (matrix (selector name (plain_matchers plain groups) None at) range mode) t x e q = same_patterns (matrix (selector name (plain_matchers plain groups) (Some x) at) range mode) t (same_tree _ _ e) q
   offset_back (subquery e None at range step) t x h q = same_patterns (subquery e (Some x) at range step) t (same_tree _ _ h) q
   offset_back s t x e q = cc
 
@@ -400,10 +426,10 @@ module _ (is_such : Text → Bool) where
     built_such (grammar.string text) = known_then (string_value text) _ (λ s. gives_such (TreePatterns is_such) (string s))
     built_such (grammar.selector k text b) =
         giving_such (MatchersPatterns is_such) (TreePatterns is_such) (any_braces_value b) _ (any_braces_such b)
-        (λ cs. checked_such (vector (selector (Some text) cs None None))) (λ cs. checked_back (vector (selector (Some text) cs None None)))
+        (λ cs. checked_such (vector (selector (Some text) cs None None))) (λ cs answers t h q. matchers_back (Some text) cs (checked_back (vector (selector (Some text) cs None None)) answers t h q))
     built_such (grammar.nameless b) =
         giving_such (MatchersPatterns is_such) (TreePatterns is_such) (braces_value b) _ (braces_such b)
-        (λ cs. checked_such (vector (selector None cs None None))) (λ cs. checked_back (vector (selector None cs None None)))
+        (λ cs. checked_such (vector (selector None cs None None))) (λ cs answers t h q. matchers_back None cs (checked_back (vector (selector None cs None None)) answers t h q))
     built_such (grammar.paren d) = giving_such (TreePatterns is_such) (TreePatterns is_such) (build d) _ (built_such d) (λ t. gives_such (TreePatterns is_such) (paren t)) paren_back
     built_such (grammar.call k text ds) =
         giving_such (AllPatterns is_such) (TreePatterns is_such) (build_all ds) _ (all_such ds) (call_such text (function_named text)) (call_back text (function_named text))

@@ -26,13 +26,14 @@ use Rattle.promql_grammar.specs.Results.{◌then◌}
 use Rattle.promql_syntax.specs.declared.grammar.parsed.ParsedExpr.{ParsedExpr}
 use Rattle.promql_syntax.specs.declared.grammar.parsed.ParsedArgs.{ParsedArgs}
 use Rattle.promql_syntax.specs.Asking.{Asking, gives, ◌giving◌, known, EndsIn}
-use Rattle.promql_syntax.specs.Building.{build, build_call, from_verdict, from_checked_verdict, selector_tree, build_postfix, build_unary}
+use Rattle.promql_syntax.specs.Building.{build, from_verdict, from_checked_verdict, selector_tree, build_postfix}
 use Rattle.promql_syntax.specs.BuildErrors.{BuildError, build_error_of, unknown_function}
 use Rattle.promql_syntax.specs.FaultTokens.{subexpressions}
 use Rattle.promql_syntax.specs.ParsesExpr.{IsExprOf, IsPlaced, tree_result, trees_result, outcome}
-use Rattle.promql_syntax.specs.PartBuilding.{clause_value, modifier_value, time_value, step_value, moment_value, shift_value}
+use Rattle.promql_syntax.specs.PartBuilding.{modifier_value, time_value, moment_value, shift_value}
 use Rattle.promql_syntax.specs.Postfixes.{Change, apply_change, change_value, to_subquery}
 use Rattle.promql_syntax.proofs.building.Ending.{ends_known}
+use Rattle.promql_syntax.specs.PartWords.{build_call, build_unary, clause_value, step_value}
 
 pub if_ok_both : {X E : Type 0} {P Q R : X → Type 0} (r : Result X E) → IfOk r P → IfOk r Q → ((x : X) → P x → Q x → R x) → IfOk r R
 if_ok_both (Ok x) p q both = both x p q

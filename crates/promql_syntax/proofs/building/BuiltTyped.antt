@@ -25,11 +25,12 @@ use Rattle.promql_ast.specs.declared.range_mode.RangeMode.TheVariants.{Plain, Sm
 use Rattle.promql_grammar.specs.Grammar as grammar
 use Rattle.promql_grammar.specs.GrammarParts as part
 use Rattle.promql_syntax.specs.Asking.{Asking, gives, fails, asks, ◌giving◌, known, Asked, Ends}
-use Rattle.promql_syntax.specs.Building.{build, build_all, from_verdict, from_checked_verdict, selector_tree, build_call, build_postfix, build_unary}
+use Rattle.promql_syntax.specs.Building.{build, build_all, from_verdict, from_checked_verdict, selector_tree, build_postfix}
 use Rattle.promql_syntax.specs.Postfixes.{bound_moment, range_mode}
 use Rattle.promql_syntax.specs.BuildErrors.{BuildError}
-use Rattle.promql_syntax.specs.PartBuilding.{string_value, number_value, duration_value, time_value, step_value, shift_value, moment_value, clause_value, modifier_value, braces_value}
+use Rattle.promql_syntax.specs.PartBuilding.{string_value, number_value, duration_value, time_value, shift_value, moment_value, modifier_value, braces_value}
 use Rattle.promql_syntax.specs.Atoms.{any_braces_value}
+use Rattle.promql_syntax.specs.PartWords.{build_call, build_unary, step_value, clause_value}
 
 -- whatever is answered, what is given has a property
 abbrev pub AllGive : {A : Type 0} → (A → Type 0) → Asking A → Type 0

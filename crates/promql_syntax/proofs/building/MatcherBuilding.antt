@@ -1,8 +1,8 @@
 -- What the tokens of one matcher are parsed as, and build.
-use Rattle.std.proofs.Common.{◌≡◌, refl, true, false, List, [], ◌∷◌}
+use Rattle.std.proofs.Common.{◌≡◌, refl, true, false, List, [], ◌∷◌, Some, None}
 use Rattle.std.specs.Prelude.{Result, Ok, Err}
 use Rattle.promql_text.specs.Texts.{Text}
-use Rattle.promql_grammar.specs.GrammarParts.{MatchOperator, equal, not_equal, equal_regex, not_equal_regex, Item, Separator, comma, or}
+use Rattle.promql_grammar.specs.GrammarParts.{MatchOperator, equal, not_equal, equal_regex, not_equal_regex, Item, Separator}
 use Rattle.promql_grammar.specs.declared.matcher_tokens.MatchOperator.TheVariants as operators
 use Rattle.promql_grammar.specs.MatcherTokens.{operator_of_part, is_or}
 use Rattle.promql_label.specs.Answers.{Answer, Allows, built, rejected}
@@ -61,9 +61,9 @@ pub joins_none : (cs : plain.PlainMatchers) (s : Separator) (i : Item) (fault : 
 joins_none cs s i fault answers allowed ends = record { answers = answers; allowed = allowed; ends = ends_err (item_value i) (λ c. gives (append_matcher s cs c)) answers fault ends }
 
 pub joined_or : (s : Separator) (cs : plain.PlainMatchers) (c : plain.PlainMatcher) → true ≡ is_or s → append_matcher s cs c ≡ plain.appended_or cs c
-joined_or comma cs c same = cc
-joined_or (or t) cs c same = refl
+joined_or None cs c same = cc
+joined_or (Some t) cs c same = refl
 
 pub joined_comma : (s : Separator) (cs : plain.PlainMatchers) (c : plain.PlainMatcher) → false ≡ is_or s → append_matcher s cs c ≡ plain.append_plain cs c
-joined_comma comma cs c same = refl
-joined_comma (or t) cs c same = cc
+joined_comma None cs c same = refl
+joined_comma (Some t) cs c same = cc

@@ -45,7 +45,7 @@ module _ (is_such : Text → Bool) (g : Text → Answer) (one : (v : Text) → i
 
   pub tree_is_answer : (source : Text) (answers : List Asked) (answer : Result Tree PlainParseError) (t : Tree) → IsServed source answers answer → HasTree g source t → TreePatterns is_such t → answer ≡ Ok t
   tree_is_answer source answers answer t served has small =
-      let only = served.only has.derivation has.derives has.low in
-      let such = asked_about is_such has.derivation (path (build has.derivation)) t (subst (Ends (build has.derivation) (path (build has.derivation))) has.builds (path_ends (build has.derivation))) small in
-      let taken = path_is_taken (build has.derivation) answers only.0 such served.allowed only.1 in
+      let only = served.only has.0 has.1 has.2 in
+      let such = asked_about is_such has.0 (path (build has.0)) t (subst (Ends (build has.0) (path (build has.0))) has.3 (path_ends (build has.0))) small in
+      let taken = path_is_taken (build has.0) answers only.0 such served.allowed only.1 in
       has_answer g source answers answer t served taken has

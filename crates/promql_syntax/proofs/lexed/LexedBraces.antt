@@ -107,11 +107,11 @@ or_lex depth =
     blank_inside depth i (token (word (kind.Operator T_LOR) (codes "or")) ∷ blank ∷ [])
     (token_then i i i (word (kind.Operator T_LOR) (codes "or")) (blank ∷ []) (λ r. or_reads depth r) (blank_inside depth i [] (nothing i)))
 
-separator_lex : (depth : ℕ) (s : Spacing) → Lexes (inside depth) (inside depth) (separator_line s part.comma)
+separator_lex : (depth : ℕ) (s : Spacing) → Lexes (inside depth) (inside depth) (separator_line s None)
 separator_lex depth close = let i = inside depth in token_then i i i (punct kind.Comma) [] (λ r. comma_inside depth r) (nothing i)
 separator_lex depth wide = let i = inside depth in token_then i i i (punct kind.Comma) (blank ∷ []) (λ r. comma_inside depth (32 ∷ r)) (blank_inside depth i [] (nothing i))
 
-or_separator_lex : (depth : ℕ) (s : Spacing) → Lexes (inside depth) (inside depth) (separator_line s (part.or (codes "or")))
+or_separator_lex : (depth : ℕ) (s : Spacing) → Lexes (inside depth) (inside depth) (separator_line s (Some (codes "or")))
 or_separator_lex depth close = or_lex depth
 or_separator_lex depth wide = or_lex depth
 
@@ -136,14 +136,14 @@ group_items_lex depth s c (d ∷ ds) more h =
     let i = inside depth in
     let o = at_depth depth in
     let rest = items_line s (group_items d ds more) in
-    append_lex i i o (item_line (item c)) (separator_line s part.comma ++ rest) (item_lex depth c)
-    (append_lex i i o (separator_line s part.comma) rest (separator_lex depth s) (group_items_lex depth s d ds more h))
+    append_lex i i o (item_line (item c)) (separator_line s None ++ rest) (item_lex depth c)
+    (append_lex i i o (separator_line s None) rest (separator_lex depth s) (group_items_lex depth s d ds more h))
 
 or_items_lex : (depth : ℕ) (s : Spacing) (groups : List (List PlainMatcher)) → MoreLexes depth s (or_items groups)
 or_items_lex depth s [] = tt
 or_items_lex depth s ([] ∷ groups) = or_items_lex depth s groups
 or_items_lex depth s ((c ∷ cs) ∷ groups) =
-    append_lex (inside depth) (inside depth) (at_depth depth) (separator_line s (part.or (codes "or"))) (items_line s (group_items c cs (or_items groups))) (or_separator_lex depth s)
+    append_lex (inside depth) (inside depth) (at_depth depth) (separator_line s (Some (codes "or"))) (items_line s (group_items c cs (or_items groups))) (or_separator_lex depth s)
     (group_items_lex depth s c cs (or_items groups) (or_items_lex depth s groups))
 
 -- ---- braces
@@ -157,7 +157,7 @@ any_items_lex depth (c ∷ cs) =
     let is = group_items c cs None in
     opened_lex depth (items_line (spacing is) is) (group_items_lex depth (spacing is) c cs None tt)
 
-groups_lex : (depth : ℕ) (groups : List (List PlainMatcher)) → Lexes (at_depth depth) (at_depth depth) (any_braces_line (option_map (λ x. part.items x.1) (or_items groups)))
+groups_lex : (depth : ℕ) (groups : List (List PlainMatcher)) → Lexes (at_depth depth) (at_depth depth) (any_braces_line (option_map (λ x. Some x.1) (or_items groups)))
 groups_lex depth [] = nothing (at_depth depth)
 groups_lex depth ([] ∷ groups) = groups_lex depth groups
 groups_lex depth ((c ∷ cs) ∷ groups) =
@@ -169,7 +169,7 @@ braces_lex depth (plain_matchers plain []) = any_items_lex depth (sorted_matcher
 braces_lex depth (plain_matchers plain (g ∷ groups)) = groups_lex depth (g ∷ groups)
 
 -- a selector without a name and matchers
-pub no_item_lex : (depth : ℕ) → Lexes (at_depth depth) (at_depth depth) (braces_line part.no_item)
+pub no_item_lex : (depth : ℕ) → Lexes (at_depth depth) (at_depth depth) (braces_line None)
 no_item_lex depth =
     opened_lex depth (token (punct kind.RightBrace) ∷ [])
     (token_then (inside depth) (at_depth depth) (at_depth depth) (punct kind.RightBrace) [] (λ r. unbrace_reads depth r) (nothing (at_depth depth)))

@@ -108,8 +108,8 @@ shift_clear (ahead n) r = refl
 -- braces, or what may follow an expression
 pub braces_end : (b : Option part.Braces) (r : Text) → is_clear r ≡ true → (ends_word (render (any_braces_line b) ++ r) ≡ true) × (opens (render (any_braces_line b) ++ r) ≡ false)
 braces_end None r clear = (clear_ends r clear, clear_shut r clear)
-braces_end (Some part.no_item) r clear = (refl, refl)
-braces_end (Some (part.items is)) r clear = (refl, refl)
+braces_end (Some None) r clear = (refl, refl)
+braces_end (Some (Some is)) r clear = (refl, refl)
 
 -- a grouping, or the parenthesis after it
 pub clause_ends : (m : Option Clause) (is : List Item) (r : Text) → ends_word (render (before_line (clause m) ++ token (punct kind.LeftParen) ∷ is) ++ r) ≡ true

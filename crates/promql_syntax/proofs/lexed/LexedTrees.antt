@@ -282,7 +282,7 @@ module _ (g : Text → Answer) where
       (λ r passes. let after = braces_end (braces cs) r passes in name_reads depth name (render items ++ r) h.0 after.0 after.1) (of_any depth items (braces_lex depth cs)))
 
   nameless_lexed : (b : Option part.Braces) → ((depth : ℕ) → Lexes (at_depth depth) (at_depth depth) (any_braces_line b)) → LexesDerivation (derive_base None b)
-  nameless_lexed None more = leaf_lexed (grammar.nameless part.no_item) (λ level most. refl) (λ depth. of_any depth (braces_line part.no_item) (no_item_lex depth))
+  nameless_lexed None more = leaf_lexed (grammar.nameless None) (λ level most. refl) (λ depth. of_any depth (braces_line None) (no_item_lex depth))
   nameless_lexed (Some b) more = leaf_lexed (grammar.nameless b) (λ level most. refl) (λ depth. of_any depth (braces_line b) (more depth))
 
   base_lexed : (name : Option Text) (cs : PlainMatchers) → IsSelecting g name cs → LexesDerivation (derive_base name (braces cs))

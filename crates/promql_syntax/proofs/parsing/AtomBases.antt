@@ -23,7 +23,7 @@ use Rattle.promql_syntax.specs.declared.grammar.parsed.ParsedExpr.{ParsedExpr}
 use Rattle.promql_syntax.specs.ParsesPart.{ParsesAskedPart, IsBuiltBy}
 use Rattle.promql_syntax.specs.Asking.{EndsIn}
 use Rattle.promql_syntax.specs.Building.{build}
-use Rattle.promql_syntax.specs.FaultTokens.{Builds, here, subexpressions}
+use Rattle.promql_syntax.specs.FaultTokens.{Builds, subexpressions}
 use Rattle.promql_syntax.specs.ParsesExpr.{IsExprOf, IsPlaced, ParsesBase, FailsBase, tree_result}
 use Rattle.promql_syntax.proofs.answer.FaultPlacing.{IsWhole, whole_placed}
 use Rattle.promql_syntax.specs.PartBuilding.{braces_value}
@@ -36,7 +36,7 @@ no_braces (punct kind.LeftBrace ∷ ts) none = absurd (none refl)
 no_braces ts none = refl
 
 -- a form that holds no expression, and whose faults are about tokens of their own
-atom_of : (builds : Bool) (n k : ℕ) (parsed : ParsedExpr) (d : grammar.Derivation) → IsWhole d → subexpressions k d ≡ here k d ∷ [] → parsed.height ≡ grammar.height d → (builds ≡ true → EndsIn (build d) (tree_result parsed)) → IsExprOf builds n k parsed d
+atom_of : (builds : Bool) (n k : ℕ) (parsed : ParsedExpr) (d : grammar.Derivation) → IsWhole d → subexpressions k d ≡ (k, d) ∷ [] → parsed.height ≡ grammar.height d → (builds ≡ true → EndsIn (build d) (tree_result parsed)) → IsExprOf builds n k parsed d
 atom_of builds n k parsed d whole alone tall ends = record {
   tall = tall;
   built = ends;

@@ -27,8 +27,8 @@ use Rattle.promql_syntax.specs.BuildErrors.{view_result}
 use Rattle.promql_syntax.specs.FaultTokens.{subexpressions, subexpressions_of}
 use Rattle.promql_syntax.specs.ParsesExpr.{IsExprOf, AreArgsOf, IsPlaced, ParsesExpr, ParsesArgs, ParsesBase, FailsBase}
 use Rattle.promql_syntax.specs.ParsesPart.{ParsesPart}
-use Rattle.promql_syntax.specs.PartBuilding.{clause_value}
 use Rattle.promql_syntax.proofs.parsing.ReadErrorSteps.{fails_same, fails_first}
+use Rattle.promql_syntax.specs.PartWords.{clause_value}
 
 -- ---- how many tokens are taken
 
@@ -206,29 +206,29 @@ module _ (r : Reader) (op : ℕ) (text : Text) (all ts : List Symbol) (front : a
 -- the grouping of an aggregation, before its arguments
 record IsBefore (r : Reader) (op : ℕ) (text : Text) (ts us : List Symbol) (c : part.Clause) : Type 0 where
   grouping : part.Grouping
-  value : clause_value c ≡ clause_value (part.before grouping)
+  value : clause_value c ≡ clause_value (Some (true, grouping))
   is : (k n : ℕ) → parse_aggregate r k n op text ts ≡ parse_grouped_aggregate r k n op text grouping us
 
 clause_read : Read part.Clause → part.Clause
 clause_read (Ok x) = x.0
-clause_read (Err e) = part.no_clause
+clause_read (Err e) = None
 
 left_read : Read part.Clause → List Symbol
 left_read (Ok x) = x.1
 left_read (Err e) = []
 
 by_before : (r : Reader) (op : ℕ) (text : Text) (ts us : List Symbol) (c : part.Clause) (o : Read part.Labels) (g : part.Labels → part.Grouping)
-    → ◌then◌ {B = part.Clause × List Symbol} o (λ l. Ok (part.after (g l.0), l.1)) ≡ Ok (c, us) → ((k n : ℕ) → parse_aggregate r k n op text ts ≡ (o then λ l. parse_grouped_aggregate r k n op text (g l.0) l.1)) → IsBefore r op text ts us c
+    → ◌then◌ {B = part.Clause × List Symbol} o (λ l. Ok (Some (false, (g l.0)), l.1)) ≡ Ok (c, us) → ((k n : ℕ) → parse_aggregate r k n op text ts ≡ (o then λ l. parse_grouped_aggregate r k n op text (g l.0) l.1)) → IsBefore r op text ts us c
 unfolding clause_read left_read
 by_before r op text ts us c (Ok l) g is reads =
-    let same : part.after (g l.0) ≡ c = ap clause_read is in
+    let same : Some (false, (g l.0)) ≡ c = ap clause_read is in
     let left : l.1 ≡ us = ap left_read is in
     record { grouping = g l.0; value = ap clause_value (sym same); is = λ k n. reads k n ∙ ap (parse_grouped_aggregate r k n op text (g l.0)) left }
 by_before r op text ts us c (Err e) g is reads = cc
 
 before_read : (r : Reader) (op : ℕ) (text : Text) (ts us : List Symbol) (c : part.Clause) → StartsGrouping ts → parse_grouping ts ≡ Ok (c, us) → IsBefore r op text ts us c
-before_read r op text (word kind.By u ∷ ts) us c begins is = by_before r op text (word kind.By u ∷ ts) us c (parse_labels ts) (λ l. part.grouping true u l) is (λ k n. refl)
-before_read r op text (word kind.Without u ∷ ts) us c begins is = by_before r op text (word kind.Without u ∷ ts) us c (parse_labels ts) (λ l. part.grouping false u l) is (λ k n. refl)
+before_read r op text (word kind.By u ∷ ts) us c begins is = by_before r op text (word kind.By u ∷ ts) us c (parse_labels ts) (λ l. (true, u, l)) is (λ k n. refl)
+before_read r op text (word kind.Without u ∷ ts) us c begins is = by_before r op text (word kind.Without u ∷ ts) us c (parse_labels ts) (λ l. (false, u, l)) is (λ k n. refl)
 before_read r op text ts us c begins is = absurd begins
 
 labels_fail : (e : Failure) (o : Read part.Labels) (g : part.Labels → part.Clause) → Fails {A = part.Clause × List Symbol} e (◌then◌ {B = part.Clause × List Symbol} o (λ l. Ok (g l.0, l.1))) → Fails e o
@@ -239,8 +239,8 @@ labels_fail (TooDeep, rest) (Ok l) g fails = cc
 labels_fail (TooDeep, rest) (Err d) g fails = cc
 
 pub before_fails : (r : Reader) (op : ℕ) (text : Text) (ts : List Symbol) (e : Failure) → StartsGrouping ts → Fails e (parse_grouping ts) → FailsBase e (λ k n. parse_aggregate r k n op text ts)
-before_fails r op text (word kind.By u ∷ ts) e begins fails = λ k n. fails_first e (parse_labels ts) (λ l. parse_grouped_aggregate r k n op text (part.grouping true u l.0) l.1) _ refl (labels_fail e (parse_labels ts) (λ l. part.after (part.grouping true u l)) fails)
-before_fails r op text (word kind.Without u ∷ ts) e begins fails = λ k n. fails_first e (parse_labels ts) (λ l. parse_grouped_aggregate r k n op text (part.grouping false u l.0) l.1) _ refl (labels_fail e (parse_labels ts) (λ l. part.after (part.grouping false u l)) fails)
+before_fails r op text (word kind.By u ∷ ts) e begins fails = λ k n. fails_first e (parse_labels ts) (λ l. parse_grouped_aggregate r k n op text (true, u, l.0) l.1) _ refl (labels_fail e (parse_labels ts) (λ l. Some (false, (true, u, l))) fails)
+before_fails r op text (word kind.Without u ∷ ts) e begins fails = λ k n. fails_first e (parse_labels ts) (λ l. parse_grouped_aggregate r k n op text (false, u, l.0) l.1) _ refl (labels_fail e (parse_labels ts) (λ l. Some (false, (false, u, l))) fails)
 before_fails r op text ts e begins fails = absurd begins
 
 grouped_none : (r : Reader) (k n op : ℕ) (text : Text) (g : part.Grouping) (us : List Symbol) → HasNo kind.LeftParen us → parse_grouped_aggregate r k n op text g us ≡ Err (misfit us)
@@ -257,14 +257,14 @@ module _ (r : Reader) (op : ℕ) (text : Text) (ts us : List Symbol) (begins : S
     pub before_arguments_fail : (e : Failure) → Fails e (parse_arguments r vs) → FailsBase e (λ k n. parse_aggregate r k n op text ts)
     before_arguments_fail e fails = λ k n.
         let before = before_read r op text ts us clause.part begins clause.is in
-        fails_first e (parse_arguments r vs) (λ y. parse_postfixes k n (grammar.aggregate op text (part.before before.grouping) y.0) y.1) _ (before.is k n ∙ ap (parse_grouped_aggregate r k n op text before.grouping) front) fails
+        fails_first e (parse_arguments r vs) (λ y. parse_postfixes k n (grammar.aggregate op text (Some (true, before.grouping)) y.0) y.1) _ (before.is k n ∙ ap (parse_grouped_aggregate r k n op text before.grouping) front) fails
 
     pub before_base : {builds : Bool} (total : ℕ) (args : ParsedArgs) (ws : List Symbol) (made : ParsedExpr) → ParsesArgs builds total args vs ws (parse_arguments r vs)
         → ((t : Text) (c : part.Clause) (ds : grammar.Arguments) → view_result (option_map clause_of) held ≡ clause_value c → AreArgsOf builds total (1 + (length (yield_after c) + length ws)) args ds → IsExprOf builds total (length ws) made (grammar.aggregate op t c ds)) → ParsesBase builds total made ws (λ k n. parse_aggregate r k n op text ts)
     before_base total args ws made given built =
         let before = before_read r op text ts us clause.part begins clause.is in
         record {
-          derivation = grammar.aggregate op text (part.before before.grouping) given.derivations;
-          is = λ k n. before.is k n ∙ ap (parse_grouped_aggregate r k n op text before.grouping) front ∙ ap (λ o. o then λ y. parse_postfixes k n (grammar.aggregate op text (part.before before.grouping) y.0) y.1) given.is;
-          built = built text (part.before before.grouping) given.derivations (clause.built ∙ before.value) (all_followed_by total (1 + length ws) (1 + (0 + length ws)) args given.derivations (omega arith) given.built);
+          derivation = grammar.aggregate op text (Some (true, before.grouping)) given.derivations;
+          is = λ k n. before.is k n ∙ ap (parse_grouped_aggregate r k n op text before.grouping) front ∙ ap (λ o. o then λ y. parse_postfixes k n (grammar.aggregate op text (Some (true, before.grouping)) y.0) y.1) given.is;
+          built = built text (Some (true, before.grouping)) given.derivations (clause.built ∙ before.value) (all_followed_by total (1 + length ws) (1 + (0 + length ws)) args given.derivations (omega arith) given.built);
         }

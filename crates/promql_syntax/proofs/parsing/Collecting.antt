@@ -6,10 +6,11 @@ use Rattle.promql_grammar.specs.declared.token_kinds.TokenKind.TheVariants as ki
 use Rattle.promql_grammar.specs.Results.{◌then◌}
 use Rattle.promql_grammar.specs.Symbols.{Symbol, punct}
 use Rattle.promql_grammar.specs.Grammar as grammar
-use Rattle.promql_grammar.specs.Grammar.{yield, yield_rest}
+use Rattle.promql_grammar.specs.Grammar.{yield}
 use Rattle.promql_grammar.specs.Parsing.{Read, Reader, parse_arguments, parse_more_arguments, misfit}
 use Rattle.promql_grammar.specs.Eating.{HasNo}
 use Rattle.promql_grammar.specs.Failures.{Fails, Failure}
+use Rattle.promql_grammar.specs.PartTokens.{yield_rest}
 use Rattle.promql_syntax.specs.declared.grammar.parsed.ParsedArgs.{ParsedArgs}
 use Rattle.promql_syntax.specs.declared.grammar.parsed.ParsedExpr.{ParsedExpr}
 use Rattle.promql_syntax.specs.ParsesExpr.{IsExprOf, AreArgsOf, ParsesExpr, ParsesArgs, append_derivation}

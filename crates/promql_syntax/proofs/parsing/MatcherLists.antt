@@ -7,7 +7,7 @@ use Rattle.promql_grammar.specs.declared.token_kinds.TokenKind.TheVariants as ki
 use Rattle.promql_grammar.specs.declared.read_error.ReadError.TheVariants.{Memory, Syntax, TooDeep}
 use Rattle.promql_grammar.specs.Results.{◌then◌}
 use Rattle.promql_grammar.specs.Symbols.{Symbol, punct, word}
-use Rattle.promql_grammar.specs.GrammarParts.{Item, Items, last_item, last_item_comma, next_item, items, Separator, comma, or}
+use Rattle.promql_grammar.specs.GrammarParts.{Item, Items, last_item, next_item, Separator}
 use Rattle.promql_grammar.specs.Parsing.{Read, parse_item, parse_items, parse_after_item, parse_braces, Stop, misfit}
 use Rattle.promql_grammar.specs.Eating.{HasNo}
 use Rattle.promql_grammar.specs.MatcherTokens.{ItemEnd, closes, comma_closes, joins, parse_item_end, is_or, next_group, ParsesItemEnd}
@@ -27,8 +27,8 @@ use Rattle.promql_token.specs.declared.ids.TheConstants.{T_LOR}
 
 -- what a matcher and its end give
 abbrev items_after : (List Symbol → Read Items) → Item → ItemEnd × List Symbol → Read Items
-items_after r i (closes, ts) = Ok (last_item i, ts)
-items_after r i (comma_closes, ts) = Ok (last_item_comma i, ts)
+items_after r i (closes, ts) = Ok (last_item i false, ts)
+items_after r i (comma_closes, ts) = Ok (last_item i true, ts)
 items_after r i (joins s, ts) = r ts then λ y. Ok (next_item i s y.0, y.1)
 
 choice_then : {A B : Type 0} (b : Bool) (x : A) (f : A → Result B Stop) (bad : List Symbol) → (if b then f x else Err (misfit bad)) ≡ ((if b then Ok x else Err (misfit bad)) then f)
@@ -39,10 +39,10 @@ after_step : (r : List Symbol → Read Items) (i : Item) (ts : List Symbol) → 
 after_step r i (punct kind.RightBrace ∷ ts) = refl
 after_step r i (punct kind.Comma ∷ (punct kind.RightBrace ∷ ts)) = refl
 after_step r i (punct kind.Comma ∷ ts) = refl
-after_step r i (word (kind.Operator op) t ∷ ts) = choice_then (op == T_LOR) (joins (or t), ts) (items_after r i) (word (kind.Operator op) t ∷ ts)
+after_step r i (word (kind.Operator op) t ∷ ts) = choice_then (op == T_LOR) (joins (Some t), ts) (items_after r i) (word (kind.Operator op) t ∷ ts)
 after_step r i ts = refl
 
-some_items : (ts : List Symbol) → HasNo kind.RightBrace ts → parse_braces ts ≡ (parse_items (length ts) ts then λ y. Ok (items y.0, y.1))
+some_items : (ts : List Symbol) → HasNo kind.RightBrace ts → parse_braces ts ≡ (parse_items (length ts) ts then λ y. Ok (Some y.0, y.1))
 some_items (punct kind.RightBrace ∷ ts) none = absurd (none refl)
 some_items ts none = refl
 
@@ -55,7 +55,7 @@ turn n rest us i some is =
 pub record Builds (held : Result PlainMatchers BuildError) (separator : Separator) (whole : Items → Items) : Type 0 where
   pub answers : List Asked
   pub allowed : AreAllowed answers
-  pub ends : (is : Items) (more : List Asked) (after : Result PlainMatchers BuildError) → ItemsEnd held separator is more after → Ends (braces_value (items (whole is))) (answers ++ more) after
+  pub ends : (is : Items) (more : List Asked) (after : Result PlainMatchers BuildError) → ItemsEnd held separator is more after → Ends (braces_value (Some (whole is))) (answers ++ more) after
 
 -- matchers were read, and parsing goes on
 pub record Selecting (builds : Bool) (all rest : List Symbol) (held : Result PlainMatchers BuildError) (by_or : Bool) : Type 0 where
@@ -64,14 +64,14 @@ pub record Selecting (builds : Bool) (all rest : List Symbol) (held : Result Pla
   pub separator : Separator
   pub same : by_or ≡ is_or separator
   pub whole : Items → Items
-  pub goes : parse_braces all ≡ (parse_items turns rest then λ y. Ok (items (whole y.0), y.1))
+  pub goes : parse_braces all ≡ (parse_items turns rest then λ y. Ok (Some (whole y.0), y.1))
   pub built : builds ≡ true → Builds held separator whole
 
 pub selecting_starts : (builds : Bool) (all : List Symbol) → HasNo kind.RightBrace all → Selecting builds all all (Ok (plain_matchers [] [])) false
 selecting_starts builds all none = record {
   turns = length all;
   enough = omega arith;
-  separator = comma;
+  separator = None;
   same = refl;
   whole = λ is. is;
   goes = some_items all none;
@@ -94,11 +94,11 @@ items_on (Err f) next s t i is xs ys after first second =
     let faulty = fault_on f next t is ys after first.1 second in
     (ap (λ l. l ++ ys) first.0 ∙ faulty.0, faulty.1)
 
-items_end : (held after : Result PlainMatchers BuildError) (s : Separator) (i : Item) (xs : List Asked) → ItemEnds held s i xs after → ItemsEnd held s (last_item i) xs after
+items_end : (held after : Result PlainMatchers BuildError) (s : Separator) (i : Item) (xs : List Asked) → ItemEnds held s i xs after → ItemsEnd held s (last_item i false) xs after
 items_end (Ok cs) after s i xs ends = ends
 items_end (Err f) after s i xs ends = ends
 
-items_end_comma : (held after : Result PlainMatchers BuildError) (s : Separator) (i : Item) (xs : List Asked) → ItemEnds held s i xs after → ItemsEnd held s (last_item_comma i) xs after
+items_end_comma : (held after : Result PlainMatchers BuildError) (s : Separator) (i : Item) (xs : List Asked) → ItemEnds held s i xs after → ItemsEnd held s (last_item i true) xs after
 items_end_comma (Ok cs) after s i xs ends = ends
 items_end_comma (Err f) after s i xs ends = ends
 
@@ -125,18 +125,18 @@ joining_end group (joins s) same = (s, refl, cc)
 
 module _ (builds : Bool) (all rest : List Symbol) (held : Result PlainMatchers BuildError) (by_or : Bool) (selecting : Selecting builds all rest held by_or) where
   step : (i : Item) (us : List Symbol) → 0 < length rest → parse_item rest ≡ Ok (i, us)
-      → parse_braces all ≡ ((parse_item_end us then items_after (parse_items (selecting.turns - 1)) i) then λ y. Ok (items (selecting.whole y.0), y.1))
+      → parse_braces all ≡ ((parse_item_end us then items_after (parse_items (selecting.turns - 1)) i) then λ y. Ok (Some (selecting.whole y.0), y.1))
   step i us some is =
       let enough = selecting.enough in
-      selecting.goes ∙ ap (λ o. o then λ y. Ok (items (selecting.whole y.0), y.1)) (turn selecting.turns rest us i (omega arith) is)
+      selecting.goes ∙ ap (λ o. o then λ y. Ok (Some (selecting.whole y.0), y.1)) (turn selecting.turns rest us i (omega arith) is)
 
   pub selecting_none : (e : Failure) → Fails e (parse_item rest) → Fails e (parse_braces all)
-  selecting_none e fails = fails_same e _ _ selecting.goes (fails_then e (parse_items selecting.turns rest) (λ y. Ok (items (selecting.whole y.0), y.1)) (item_none selecting.turns e rest fails selecting.enough))
+  selecting_none e fails = fails_same e _ _ selecting.goes (fails_then e (parse_items selecting.turns rest) (λ y. Ok (Some (selecting.whole y.0), y.1)) (item_none selecting.turns e rest fails selecting.enough))
 
   pub selecting_fails : (i : Item) (us : List Symbol) (e : Failure) → 0 < length rest → parse_item rest ≡ Ok (i, us) → Fails e (parse_item_end us) → Fails e (parse_braces all)
   selecting_fails i us e some is fails =
       fails_same e _ _ (step i us some is)
-      (fails_then e (parse_item_end us then items_after (parse_items (selecting.turns - 1)) i) (λ y. Ok (items (selecting.whole y.0), y.1))
+      (fails_then e (parse_item_end us then items_after (parse_items (selecting.turns - 1)) i) (λ y. Ok (Some (selecting.whole y.0), y.1))
       (fails_then e (parse_item_end us) (items_after (parse_items (selecting.turns - 1)) i) fails))
 
   pub selecting_on : (i : Item) (us vs : List Symbol) (s : Separator) (next : Result PlainMatchers BuildError) (group : Bool)
@@ -149,8 +149,8 @@ module _ (builds : Bool) (all rest : List Symbol) (held : Result PlainMatchers B
     whole = λ is. selecting.whole (next_item i s is);
     goes =
         step i us (omega arith) is
-        ∙ ap (λ o. (o then items_after (parse_items (selecting.turns - 1)) i) then λ y. Ok (items (selecting.whole y.0), y.1)) ends
-        ∙ then_then (parse_items (selecting.turns - 1) vs) (λ y. Ok (next_item i s y.0, y.1)) (λ y. Ok (items (selecting.whole y.0), y.1));
+        ∙ ap (λ o. (o then items_after (parse_items (selecting.turns - 1)) i) then λ y. Ok (Some (selecting.whole y.0), y.1)) ends
+        ∙ then_then (parse_items (selecting.turns - 1) vs) (λ y. Ok (next_item i s y.0, y.1)) (λ y. Ok (Some (selecting.whole y.0), y.1));
     built = λ on.
         let so_far = selecting.built on in
         let adds = added on in
@@ -158,7 +158,7 @@ module _ (builds : Bool) (all rest : List Symbol) (held : Result PlainMatchers B
           answers = so_far.answers ++ adds.answers;
           allowed = allowed_all so_far.answers adds.answers so_far.allowed adds.allowed;
           ends = λ is more after rest_ends.
-              subst (λ l. Ends (braces_value (items (selecting.whole (next_item i s is)))) l after) (sym (append_assoc so_far.answers adds.answers more))
+              subst (λ l. Ends (braces_value (Some (selecting.whole (next_item i s is)))) l after) (sym (append_assoc so_far.answers adds.answers more))
               (so_far.ends (next_item i s is) (adds.answers ++ more) after (items_on held next selecting.separator s i is adds.answers more after adds.ends rest_ends));
         };
   }
@@ -166,27 +166,27 @@ module _ (builds : Bool) (all rest : List Symbol) (held : Result PlainMatchers B
   pub selecting_ends : (i : Item) (us vs : List Symbol) (value : Result code.Matchers (Box build_errors.BuildError Global)) (end : ItemEnd)
       → parse_item rest ≡ Ok (i, us) → 0 < length rest → parse_item_end us ≡ Ok (end, vs) → ¬ ((s : Separator) × (end ≡ joins s)) → (builds ≡ true → AddsItem held selecting.separator i (view_result plain_matchers_of value)) → ParsesAskedPart builds plain_matchers_of braces_value value vs (parse_braces all)
   selecting_ends i us vs value closes is some ends other added = record {
-    part = items (selecting.whole (last_item i));
-    is = step i us some is ∙ ap (λ o. (o then items_after (parse_items (selecting.turns - 1)) i) then λ y. Ok (items (selecting.whole y.0), y.1)) ends;
+    part = Some (selecting.whole (last_item i false));
+    is = step i us some is ∙ ap (λ o. (o then items_after (parse_items (selecting.turns - 1)) i) then λ y. Ok (Some (selecting.whole y.0), y.1)) ends;
     built = λ on.
         let so_far = selecting.built on in
         let adds = added on in
         record {
           answers = so_far.answers ++ adds.answers;
           allowed = allowed_all so_far.answers adds.answers so_far.allowed adds.allowed;
-          ends = so_far.ends (last_item i) adds.answers _ (items_end held _ selecting.separator i adds.answers adds.ends);
+          ends = so_far.ends (last_item i false) adds.answers _ (items_end held _ selecting.separator i adds.answers adds.ends);
         };
   }
   selecting_ends i us vs value comma_closes is some ends other added = record {
-    part = items (selecting.whole (last_item_comma i));
-    is = step i us some is ∙ ap (λ o. (o then items_after (parse_items (selecting.turns - 1)) i) then λ y. Ok (items (selecting.whole y.0), y.1)) ends;
+    part = Some (selecting.whole (last_item i true));
+    is = step i us some is ∙ ap (λ o. (o then items_after (parse_items (selecting.turns - 1)) i) then λ y. Ok (Some (selecting.whole y.0), y.1)) ends;
     built = λ on.
         let so_far = selecting.built on in
         let adds = added on in
         record {
           answers = so_far.answers ++ adds.answers;
           allowed = allowed_all so_far.answers adds.answers so_far.allowed adds.allowed;
-          ends = so_far.ends (last_item_comma i) adds.answers _ (items_end_comma held _ selecting.separator i adds.answers adds.ends);
+          ends = so_far.ends (last_item i true) adds.answers _ (items_end_comma held _ selecting.separator i adds.answers adds.ends);
         };
   }
   selecting_ends i us vs value (joins s) is some ends other added = absurd (other (s, refl))

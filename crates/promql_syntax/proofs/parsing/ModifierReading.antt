@@ -24,8 +24,9 @@ use Rattle.promql_syntax.specs.declared.grammar.modifier.Matching as parts
 use Rattle.promql_syntax.specs.BuildErrors.{BuildError, view_result}
 use Rattle.promql_syntax.specs.ParsesPart.{ParsesPart}
 use Rattle.promql_syntax.specs.ModifierParts.{ParsesFlag, list_in, list_value, matching_parts, modifier_of}
-use Rattle.promql_syntax.specs.PartBuilding.{label_values, cardinality, group_value, matching_value, fill_value, fills_value, modifier_value}
+use Rattle.promql_syntax.specs.PartBuilding.{label_values, group_value, matching_value, fill_value, fills_value, modifier_value}
 use Rattle.promql_syntax.proofs.parsing.ResultSteps.{fails_then, fails_same, then_then}
+use Rattle.promql_syntax.specs.PartWords.{cardinality}
 
 -- ---- the flag
 
@@ -44,8 +45,8 @@ flag_short false ts us none stays = omega (arith, ap length (stays refl))
 -- ---- groups
 
 abbrev pub group_of_labels : Bool → Text → Option part.Labels → part.Group
-group_of_labels left t None = part.bare left t
-group_of_labels left t (Some ls) = part.listed left t ls
+group_of_labels left t None = Some (left, t, None)
+group_of_labels left t (Some ls) = Some (left, t, Some ls)
 
 list_read : (left : Bool) (t : Text) (ts : List Symbol) → parse_group_labels left t ts ≡ (list_in ts then λ l. Ok (group_of_labels left t l.0, l.1))
 list_read left t (punct kind.LeftParen ∷ ts) = sym (then_then (parse_label_list ts) (λ l. Ok (Some l.0, l.1)) (λ l. Ok (group_of_labels left t l.0, l.1)))
@@ -113,7 +114,7 @@ two_filled (Ok n) (Ok m) h some = ap Ok (sym (some n m))
 two_filled (Ok n) (Err e) h some = refl
 two_filled (Err e) s h some = refl
 
-without_labels : (f : part.Fills) → modifier_value record { flag = None; matching = part.no_matching; fills = f } ≡ (fills_value f then λ g. Ok (modifier_of false (one_to_one, None) g))
+without_labels : (f : part.Fills) → modifier_value (None, None, f) ≡ (fills_value f then λ g. Ok (modifier_of false (one_to_one, None) g))
 without_labels part.no_fill = refl
 without_labels (part.both t v) = one_filled (fill_value v) (λ n. fills (Some n) (Some n)) (λ n. refl)
 without_labels (part.one true t v) = one_filled (fill_value v) (λ n. fills None (Some n)) (λ n. refl)
@@ -133,9 +134,9 @@ with_flag (Ok c) (Ok g) = refl
 with_flag (Ok c) (Err e) = refl
 with_flag (Err e) f = refl
 
-value_of_parts : (flag : Option Text) (m : part.Matching) (f : part.Fills) → modifier_value record { flag = flag; matching = m; fills = f } ≡ (matching_value m then λ c. fills_value f then λ g. Ok (modifier_of (is_some flag) c g))
-value_of_parts None part.no_matching f = without_labels f
-value_of_parts None (part.matching on t ls g) f = with_labels (label_values ls) (group_value g) (λ x. if on then including x else excluding x) (fills_value f)
+value_of_parts : (flag : Option Text) (m : part.Matching) (f : part.Fills) → modifier_value (flag, m, f) ≡ (matching_value m then λ c. fills_value f then λ g. Ok (modifier_of (is_some flag) c g))
+value_of_parts None None f = without_labels f
+value_of_parts None (Some (on, t, ls, g)) f = with_labels (label_values ls) (group_value g) (λ x. if on then including x else excluding x) (fills_value f)
 value_of_parts (Some t) m f = with_flag (matching_value m) (fills_value f)
 
 abbrev of_matching : Result Fills BuildError → Bool → Cardinality × Option Clause → Result (Option Matching) BuildError
@@ -147,11 +148,11 @@ pub modifier_part : (ts us vs rest : List Symbol) (given : Bool) (m : Result par
     → view_result (option_map matching_of) value ≡ (view_result matching_parts m then λ c. view_result fills_of f then λ g. Ok (modifier_of given c g))
     → ParsesPart (option_map matching_of) modifier_value value rest (parse_modifier ts)
 modifier_part ts us vs rest given m f value flag labels values made = record {
-  part = record { flag = flag.flag; matching = labels.part; fills = values.part };
+  part = (flag.flag, labels.part, values.part);
   is =
       ap (λ o. o then λ b. parse_matching b.1 then with_matching b.0) flag.is
       ∙ ap (λ o. o then with_matching flag.flag) labels.is
-      ∙ ap (λ o. o then λ x. Ok (record { flag = flag.flag; matching = labels.part; fills = x.0 }, x.1)) values.is;
+      ∙ ap (λ o. o then λ x. Ok ((flag.flag, labels.part, x.0), x.1)) values.is;
   built =
       made
       ∙ ap (λ r. r then of_matching (view_result fills_of f) given) labels.built

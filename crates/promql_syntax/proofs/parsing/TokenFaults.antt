@@ -1,5 +1,5 @@
 -- What the parts of an expression fail with: faults of a token.
-use Rattle.std.proofs.Common.{◌≡◌, Bool, true, false, refl}
+use Rattle.std.proofs.Common.{◌≡◌, Bool, true, false, refl, sym, subst}
 use Rattle.std.specs.Prelude.{Option, Some, None, ok_or, Result, Ok, Err, IfErr, cond}
 use Rattle.promql_text.specs.Texts.{Text}
 use Rattle.promql_text.specs.declared.number.Number.{Number}
@@ -19,8 +19,10 @@ use Rattle.promql_ast.specs.declared.at_modifier.AtModifier.{AtModifier}
 use Rattle.promql_syntax.specs.BuildErrors.{BuildError, number, quoted, duration, at, pattern, unknown_function, check}
 use Rattle.promql_syntax.specs.FaultTokens.{fault_tokens}
 use Rattle.promql_syntax.specs.BuildErrors as errors
-use Rattle.promql_syntax.specs.PartBuilding.{string_value, number_value, signed_number, label_value, label_values, group_value, matching_value, fill_value, fills_value, is_blank, modifier_value, time_value, step_value, shift_value, moment_value, on_error}
+use Rattle.promql_syntax.specs.PartBuilding.{string_value, number_value, signed_number, label_value, label_values, group_value, matching_value, fill_value, fills_value, modifier_value, time_value, shift_value, moment_value, on_error}
 use Rattle.promql_syntax.specs.Postfixes.{at_fault, change_value}
+use Rattle.promql_syntax.specs.PartWords.{is_blank, step_value}
+use Rattle.promql_syntax.proofs.BlankModifiers.{given_value, by_blank}
 
 abbrev pub IsTokenFault : BuildError → Type 0
 IsTokenFault (number f) = Unit {0}
@@ -62,16 +64,16 @@ labels_by (part.last k text) = by_then IsTokenFault (label_value k text) _ (labe
 labels_by (part.next k text ls) = by_then IsTokenFault (label_value k text) _ (label_by k text) (λ l. by_then IsTokenFault (label_values ls) _ (labels_by ls) (λ more. tt))
 
 group_by : (g : part.Group) → FailsByToken (group_value g)
-group_by part.no_group = tt
-group_by (part.bare left text) = tt
-group_by (part.listed left text ls) = by_then IsTokenFault (label_values ls) _ (labels_by ls) (λ x. tt)
+group_by None = tt
+group_by (Some (left, text, None)) = tt
+group_by (Some (left, text, Some ls)) = by_then IsTokenFault (label_values ls) _ (labels_by ls) (λ x. tt)
 
 matching_by : (m : part.Matching) → FailsByToken (matching_value m)
-matching_by part.no_matching = tt
-matching_by (part.matching on text ls g) = by_then IsTokenFault (label_values ls) _ (labels_by ls) (λ x. by_then IsTokenFault (group_value g) _ (group_by g) (λ c. tt))
+matching_by None = tt
+matching_by (Some (on, text, ls, g)) = by_then IsTokenFault (label_values ls) _ (labels_by ls) (λ x. by_then IsTokenFault (group_value g) _ (group_by g) (λ c. tt))
 
 fill_by : (v : part.FillValue) → FailsByToken (fill_value v)
-fill_by v = signed_by v.sign v.number
+fill_by v = signed_by v.0 v.1
 
 fills_by : (f : part.Fills) → FailsByToken (fills_value f)
 fills_by part.no_fill = tt
@@ -84,9 +86,10 @@ cond_by true r s first second = first
 cond_by false r s first second = second
 
 pub modifier_by : (m : part.Modifier) → FailsByToken (modifier_value m)
-modifier_by m =
-    cond_by (is_blank m.flag m.matching m.fills) (Ok None) _ tt
-    (by_then IsTokenFault (matching_value m.matching) _ (matching_by m.matching) (λ c. by_then IsTokenFault (fills_value m.fills) _ (fills_by m.fills) (λ f. tt)))
+modifier_by m = subst FailsByToken (sym (by_blank m)) (cond_by (is_blank m) (Ok None) (given_value m) tt given)
+  where
+    given : FailsByToken (given_value m)
+    given = by_then IsTokenFault (matching_value m.1) _ (matching_by m.1) (λ c. by_then IsTokenFault (fills_value m.2) _ (fills_by m.2) (λ f. tt))
 
 -- ---- postfixes: no fault of a check
 

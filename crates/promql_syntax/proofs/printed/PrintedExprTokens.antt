@@ -5,9 +5,9 @@ use Rattle.promql_text.specs.Texts.{Text}
 use Rattle.promql_ast.specs.Lines.{is_longer}
 use Rattle.promql_grammar.specs.declared.token_kinds.TokenKind.TheVariants as kind
 use Rattle.promql_grammar.specs.Grammar as grammar
-use Rattle.promql_grammar.specs.Grammar.{Derivation, Arguments, yield, yield_arguments, yield_rest}
+use Rattle.promql_grammar.specs.Grammar.{Derivation, Arguments, yield, yield_arguments}
 use Rattle.promql_grammar.specs.GrammarParts as part
-use Rattle.promql_grammar.specs.PartTokens.{yield_flag, yield_step}
+use Rattle.promql_grammar.specs.PartTokens.{yield_flag, yield_step, yield_rest, yield_any_braces}
 use Rattle.promql_grammar.specs.Symbols.{Symbol, punct, word}
 use Rattle.promql_syntax.proofs.printed.PrintedItems.{Item, token, blank, newline, strip, Spacing, close, wide, spacing, after_line, any_braces_line, arguments_line, before_line, braces_line, fills_line, flag_line, group_line, grouping_line, item_line, items_line, labels_line, line, matching_line, modifier_line, names_line, postfix_line, rest_line, separator_line, side_line, signed_line, step_line, time_line, value_line, arguments_lines, choose_items, closing_line, indent_items, lines, render, rest_lines, trim_items}
 
@@ -26,8 +26,8 @@ time_tokens (part.seconds text) = refl
 time_tokens (part.duration text) = refl
 
 signed_tokens : (s : part.Signed) → strip (signed_line s) ≡ part.yield_signed s
-signed_tokens part.unsigned = refl
-signed_tokens (part.signed minus text) = refl
+signed_tokens None = refl
+signed_tokens (Some (minus, text)) = refl
 
 names_tokens : (n : part.Labels) → strip (names_line n) ≡ part.yield_names n
 names_tokens part.no_label = refl
@@ -41,29 +41,29 @@ spaced_labels : (ls : part.Labels) → strip (labels_line ls ++ blank ∷ []) �
 spaced_labels ls = both (labels_line ls) (blank ∷ []) _ [] (labels_tokens ls) refl ∙ append-nil (part.yield_labels ls)
 
 grouping_tokens : (g : part.Grouping) → strip (grouping_line g) ≡ part.yield_grouping g
-grouping_tokens (part.grouping by text ls) = ap (λ ts. word (if by then kind.By else kind.Without) text ∷ ts) (spaced_labels ls)
+grouping_tokens (by, text, ls) = ap (λ ts. word (if by then kind.By else kind.Without) text ∷ ts) (spaced_labels ls)
 
 before_tokens : (c : part.Clause) → strip (before_line c) ≡ part.yield_before c
-before_tokens part.no_clause = refl
-before_tokens (part.before g) = grouping_tokens g
-before_tokens (part.after g) = refl
+before_tokens None = refl
+before_tokens (Some (true, g)) = grouping_tokens g
+before_tokens (Some (false, g)) = refl
 
 after_tokens : (c : part.Clause) → strip (after_line c) ≡ part.yield_after c
-after_tokens part.no_clause = refl
-after_tokens (part.before g) = refl
-after_tokens (part.after g) = grouping_tokens g
+after_tokens None = refl
+after_tokens (Some (true, g)) = refl
+after_tokens (Some (false, g)) = grouping_tokens g
 
 group_tokens : (g : part.Group) → strip (group_line g) ≡ part.yield_group g
-group_tokens part.no_group = refl
-group_tokens (part.bare left text) = refl
-group_tokens (part.listed left text ls) = ap (λ ts. word (if left then kind.GroupLeft else kind.GroupRight) text ∷ ts) (labels_tokens ls)
+group_tokens None = refl
+group_tokens (Some (left, text, None)) = refl
+group_tokens (Some (left, text, Some ls)) = ap (λ ts. word (if left then kind.GroupLeft else kind.GroupRight) text ∷ ts) (labels_tokens ls)
 
 matching_tokens : (m : part.Matching) → strip (matching_line m) ≡ part.yield_matching m
-matching_tokens part.no_matching = refl
-matching_tokens (part.matching on text ls g) = ap (λ ts. word (if on then kind.On else kind.Ignoring) text ∷ ts) (both (labels_line ls) (group_line g) _ _ (labels_tokens ls) (group_tokens g))
+matching_tokens None = refl
+matching_tokens (Some (on, text, ls, g)) = ap (λ ts. word (if on then kind.On else kind.Ignoring) text ∷ ts) (both (labels_line ls) (group_line g) _ _ (labels_tokens ls) (group_tokens g))
 
 value_tokens : (v : part.FillValue) → strip (value_line v) ≡ part.yield_value v
-value_tokens v = ap (λ ts. punct kind.LeftParen ∷ ts) (both (signed_line v.sign) (token (word kind.Number v.number) ∷ token (punct kind.RightParen) ∷ []) _ _ (signed_tokens v.sign) refl)
+value_tokens v = ap (λ ts. punct kind.LeftParen ∷ ts) (both (signed_line v.0) (token (word kind.Number v.1) ∷ token (punct kind.RightParen) ∷ []) _ _ (signed_tokens v.0) refl)
 
 side_tokens : (left : Bool) (text : Text) (v : part.FillValue) → strip (side_line left text v) ≡ part.yield_side left text v
 side_tokens left text v = ap (λ ts. word (if left then kind.FillLeft else kind.FillRight) text ∷ ts) (value_tokens v)
@@ -80,30 +80,30 @@ flag_tokens (Some text) = refl
 
 pub modifier_tokens : (m : part.Modifier) → strip (modifier_line m) ≡ part.yield_modifier m
 modifier_tokens m =
-    both (flag_line m.flag) (matching_line m.matching ++ fills_line m.fills) _ _ (flag_tokens m.flag)
-    (both (matching_line m.matching) (fills_line m.fills) _ _ (matching_tokens m.matching) (fills_tokens m.fills))
+    both (flag_line m.0) (matching_line m.1 ++ fills_line m.2) _ _ (flag_tokens m.0)
+    (both (matching_line m.1) (fills_line m.2) _ _ (matching_tokens m.1) (fills_tokens m.2))
 
 item_tokens : (i : part.Item) → strip (item_line i) ≡ part.yield_item i
 item_tokens (part.matcher quoted text s value) = refl
 item_tokens (part.lone text) = refl
 
 separator_tokens : (s : Spacing) (t : part.Separator) → strip (separator_line s t) ≡ part.yield_separator t ∷ []
-separator_tokens close part.comma = refl
-separator_tokens wide part.comma = refl
-separator_tokens close (part.or text) = refl
-separator_tokens wide (part.or text) = refl
+separator_tokens close None = refl
+separator_tokens wide None = refl
+separator_tokens close (Some text) = refl
+separator_tokens wide (Some text) = refl
 
 items_tokens : (s : Spacing) (is : part.Items) → strip (items_line s is) ≡ part.yield_items is
-items_tokens s (part.last_item i) = both (item_line i) (token (punct kind.RightBrace) ∷ []) _ _ (item_tokens i) refl
-items_tokens s (part.last_item_comma i) = both (item_line i) (token (punct kind.Comma) ∷ token (punct kind.RightBrace) ∷ []) _ _ (item_tokens i) refl
+items_tokens s (part.last_item i false) = both (item_line i) (token (punct kind.RightBrace) ∷ []) _ _ (item_tokens i) refl
+items_tokens s (part.last_item i true) = both (item_line i) (token (punct kind.Comma) ∷ token (punct kind.RightBrace) ∷ []) _ _ (item_tokens i) refl
 items_tokens s (part.next_item i t is) =
     both (item_line i) (separator_line s t ++ items_line s is) _ _ (item_tokens i) (both (separator_line s t) (items_line s is) _ _ (separator_tokens s t) (items_tokens s is))
 
 braces_tokens : (b : part.Braces) → strip (braces_line b) ≡ part.yield_braces b
-braces_tokens part.no_item = refl
-braces_tokens (part.items is) = ap (λ ts. punct kind.LeftBrace ∷ ts) (items_tokens (spacing is) is)
+braces_tokens None = refl
+braces_tokens (Some is) = ap (λ ts. punct kind.LeftBrace ∷ ts) (items_tokens (spacing is) is)
 
-any_braces_tokens : (b : Option part.Braces) → strip (any_braces_line b) ≡ part.yield_any_braces b
+any_braces_tokens : (b : Option part.Braces) → strip (any_braces_line b) ≡ yield_any_braces b
 any_braces_tokens None = refl
 any_braces_tokens (Some b) = braces_tokens b
 
@@ -139,7 +139,7 @@ mutual
       both (line l) (blank ∷ token (word (kind.Operator op) text) ∷ (modifier_line m ++ blank ∷ line r)) _ _ (line_tokens l)
       (ap (λ ts. word (kind.Operator op) text ∷ ts) (both (modifier_line m) (blank ∷ line r) _ _ (modifier_tokens m) (line_tokens r)))
 
-  arguments_tokens : (ds : Arguments) → strip (arguments_line ds) ≡ yield_arguments ds
+  arguments_tokens : (ds : Arguments) → strip (arguments_line ds) ≡ yield_arguments [] ds
   arguments_tokens grammar.none = refl
   arguments_tokens (grammar.more d ds) = both (line d) (rest_line ds) _ _ (line_tokens d) (rest_tokens ds)
 
@@ -183,7 +183,7 @@ mutual
   lines_tokens (grammar.call k text ds) level most =
       let many = token (word k text) ∷ token (punct kind.LeftParen) ∷ newline ∷ arguments_lines ds (level + 1) most (closing_line level []) in
       chosen_tokens (line (grammar.call k text ds)) (indent_items level many) level most _ (line_tokens (grammar.call k text ds))
-      (indented_tokens level many ∙ ap (λ ts. word k text ∷ punct kind.LeftParen ∷ ts) (arguments_lines_tokens ds (level + 1) most (closing_line level []) [] (closing_tokens level [] [] refl) ∙ append-nil (yield_arguments ds)))
+      (indented_tokens level many ∙ ap (λ ts. word k text ∷ punct kind.LeftParen ∷ ts) (arguments_lines_tokens ds (level + 1) most (closing_line level []) [] (closing_tokens level [] [] refl) ∙ append-nil (yield_arguments [] ds)))
   lines_tokens (grammar.aggregate op text c ds) level most =
       let rest = token (punct kind.LeftParen) ∷ newline ∷ arguments_lines ds (level + 1) most (closing_line level (after_line c)) in
       let many = token (word (kind.Aggregator op) text) ∷ (before_line c ++ rest) in
@@ -201,7 +201,7 @@ mutual
       (indented_tokens level (token (word (kind.Operator op) text) ∷ right)
       ∙ ap (λ ts. word (kind.Operator op) text ∷ ts) (both (modifier_line m) (newline ∷ lines r (level + 1) most) _ _ (modifier_tokens m) (lines_tokens r (level + 1) most))))
 
-  arguments_lines_tokens : (ds : Arguments) (level most : ℕ) (after : List Item) (us : List Symbol) → strip after ≡ punct kind.RightParen ∷ us → strip (arguments_lines ds level most after) ≡ yield_arguments ds ++ us
+  arguments_lines_tokens : (ds : Arguments) (level most : ℕ) (after : List Item) (us : List Symbol) → strip after ≡ punct kind.RightParen ∷ us → strip (arguments_lines ds level most after) ≡ yield_arguments [] ds ++ us
   arguments_lines_tokens grammar.none level most after us e = e
   arguments_lines_tokens (grammar.more d ds) level most after us e =
       both (lines d level most) (rest_lines ds level most after) _ _ (lines_tokens d level most) (rest_lines_tokens ds level most after us e)

@@ -1,6 +1,6 @@
 -- A printed tree as parts with the white space between them (docs/reference/printing.md, "Nodes"), from the derivation
 -- of its text.
-use Rattle.std.specs.Prelude.{ℕ, zero, suc, ◌+◌, Bool, not, if◌then◌else◌, Option, Some, None, List, [], ◌∷◌, ◌++◌, codes}
+use Rattle.std.specs.Prelude.{ℕ, zero, suc, ◌+◌, Bool, not, if◌then◌else◌, Option, Some, None, List, [], ◌∷◌, ◌++◌, codes, true, false}
 use Rattle.promql_text.specs.Texts.{Text, code}
 use Rattle.promql_token.specs.declared.ids.TheConstants.{T_ADD, T_SUB}
 use Rattle.promql_ast.specs.Lines.{is_longer}
@@ -57,8 +57,8 @@ time_line (part.seconds text) = token (word kind.Number text) ∷ []
 time_line (part.duration text) = token (word kind.Duration text) ∷ []
 
 abbrev pub signed_line : part.Signed → List Item
-signed_line part.unsigned = []
-signed_line (part.signed minus text) = token (word (kind.Operator (if minus then T_SUB else T_ADD)) text) ∷ []
+signed_line None = []
+signed_line (Some (minus, text)) = token (word (kind.Operator (if minus then T_SUB else T_ADD)) text) ∷ []
 
 abbrev pub names_line : part.Labels → List Item
 names_line part.no_label = token (punct kind.RightParen) ∷ []
@@ -69,27 +69,27 @@ abbrev pub labels_line : part.Labels → List Item
 labels_line ls = token (punct kind.LeftParen) ∷ names_line ls
 
 abbrev pub grouping_line : part.Grouping → List Item
-grouping_line (part.grouping by text ls) = blank ∷ token (word (if by then kind.By else kind.Without) text) ∷ blank ∷ (labels_line ls ++ blank ∷ [])
+grouping_line (by, text, ls) = blank ∷ token (word (if by then kind.By else kind.Without) text) ∷ blank ∷ (labels_line ls ++ blank ∷ [])
 
 abbrev pub before_line : part.Clause → List Item
-before_line (part.before g) = grouping_line g
+before_line (Some (true, g)) = grouping_line g
 before_line _ = []
 
 abbrev pub after_line : part.Clause → List Item
-after_line (part.after g) = grouping_line g
+after_line (Some (false, g)) = grouping_line g
 after_line _ = []
 
 abbrev pub group_line : part.Group → List Item
-group_line part.no_group = []
-group_line (part.bare left text) = blank ∷ token (word (if left then kind.GroupLeft else kind.GroupRight) text) ∷ []
-group_line (part.listed left text ls) = blank ∷ token (word (if left then kind.GroupLeft else kind.GroupRight) text) ∷ blank ∷ labels_line ls
+group_line None = []
+group_line (Some (left, text, None)) = blank ∷ token (word (if left then kind.GroupLeft else kind.GroupRight) text) ∷ []
+group_line (Some (left, text, Some ls)) = blank ∷ token (word (if left then kind.GroupLeft else kind.GroupRight) text) ∷ blank ∷ labels_line ls
 
 abbrev pub matching_line : part.Matching → List Item
-matching_line part.no_matching = []
-matching_line (part.matching on text ls g) = blank ∷ token (word (if on then kind.On else kind.Ignoring) text) ∷ blank ∷ (labels_line ls ++ group_line g)
+matching_line None = []
+matching_line (Some (on, text, ls, g)) = blank ∷ token (word (if on then kind.On else kind.Ignoring) text) ∷ blank ∷ (labels_line ls ++ group_line g)
 
 abbrev pub value_line : part.FillValue → List Item
-value_line v = blank ∷ token (punct kind.LeftParen) ∷ (signed_line v.sign ++ token (word kind.Number v.number) ∷ token (punct kind.RightParen) ∷ [])
+value_line v = blank ∷ token (punct kind.LeftParen) ∷ (signed_line v.0 ++ token (word kind.Number v.1) ∷ token (punct kind.RightParen) ∷ [])
 
 abbrev pub side_line : Bool → Text → part.FillValue → List Item
 side_line left text v = blank ∷ token (word (if left then kind.FillLeft else kind.FillRight) text) ∷ value_line v
@@ -105,7 +105,7 @@ flag_line None = []
 flag_line (Some text) = blank ∷ token (word kind.Bool text) ∷ []
 
 abbrev pub modifier_line : part.Modifier → List Item
-modifier_line m = flag_line m.flag ++ (matching_line m.matching ++ fills_line m.fills)
+modifier_line m = flag_line m.0 ++ (matching_line m.1 ++ fills_line m.2)
 
 abbrev pub item_line : part.Item → List Item
 item_line (part.matcher quoted text s value) = token (word (part.name_kind quoted) text) ∷ token (part.yield_match_operator s) ∷ token (word kind.String value) ∷ []
@@ -117,24 +117,24 @@ pub data Spacing : Type 0 where
   wide : Spacing
 
 abbrev pub spacing : part.Items → Spacing
-spacing (part.last_item i) = close
-spacing (part.last_item_comma i) = close
-spacing (part.next_item i part.comma is) = spacing is
-spacing (part.next_item i (part.or text) is) = wide
+spacing (part.last_item i false) = close
+spacing (part.last_item i true) = close
+spacing (part.next_item i None is) = spacing is
+spacing (part.next_item i (Some text) is) = wide
 
 abbrev pub separator_line : Spacing → part.Separator → List Item
-separator_line close part.comma = token (punct kind.Comma) ∷ []
-separator_line wide part.comma = token (punct kind.Comma) ∷ blank ∷ []
-separator_line s (part.or text) = blank ∷ token (part.yield_separator (part.or text)) ∷ blank ∷ []
+separator_line close None = token (punct kind.Comma) ∷ []
+separator_line wide None = token (punct kind.Comma) ∷ blank ∷ []
+separator_line s (Some text) = blank ∷ token (part.yield_separator (Some text)) ∷ blank ∷ []
 
 abbrev pub items_line : Spacing → part.Items → List Item
-items_line s (part.last_item i) = item_line i ++ token (punct kind.RightBrace) ∷ []
-items_line s (part.last_item_comma i) = item_line i ++ token (punct kind.Comma) ∷ token (punct kind.RightBrace) ∷ []
+items_line s (part.last_item i false) = item_line i ++ token (punct kind.RightBrace) ∷ []
+items_line s (part.last_item i true) = item_line i ++ token (punct kind.Comma) ∷ token (punct kind.RightBrace) ∷ []
 items_line s (part.next_item i t is) = item_line i ++ (separator_line s t ++ items_line s is)
 
 abbrev pub braces_line : part.Braces → List Item
-braces_line part.no_item = token (punct kind.LeftBrace) ∷ token (punct kind.RightBrace) ∷ []
-braces_line (part.items is) = token (punct kind.LeftBrace) ∷ items_line (spacing is) is
+braces_line None = token (punct kind.LeftBrace) ∷ token (punct kind.RightBrace) ∷ []
+braces_line (Some is) = token (punct kind.LeftBrace) ∷ items_line (spacing is) is
 
 abbrev pub any_braces_line : Option part.Braces → List Item
 any_braces_line None = []

@@ -222,8 +222,8 @@ mode_front Anchored d h = has_front_append (line d) (postfix_line (part.mode fal
 
 nameless_front : (b : Option part.Braces) → HasFront (line (derive_base None b))
 nameless_front None = refl
-nameless_front (Some part.no_item) = refl
-nameless_front (Some (part.items is)) = refl
+nameless_front (Some None) = refl
+nameless_front (Some (Some is)) = refl
 
 number_line_front : (n : Number) → IsNumber n → HasFront (line (derive_number n))
 number_line_front n is = go (is_below_zero n) refl

@@ -89,7 +89,7 @@ close_spacing : (c : PlainMatcher) (ds : List PlainMatcher) → spacing (group_i
 close_spacing c [] = refl
 close_spacing c (d ∷ ds) = close_spacing d ds
 
-wide_spacing : (c : PlainMatcher) (ds : List PlainMatcher) (t : Text) (is : part.Items) → spacing (group_items c ds (Some (part.or t, is))) ≡ wide
+wide_spacing : (c : PlainMatcher) (ds : List PlainMatcher) (t : Text) (is : part.Items) → spacing (group_items c ds (Some (Some t, is))) ≡ wide
 wide_spacing c [] t is = refl
 wide_spacing c (d ∷ ds) t is = wide_spacing d ds t is
 

@@ -105,12 +105,12 @@ module _ (g : Text → Answer) where
 
   -- those before a matcher: none only where no `or` follows them
   abbrev Ready : part.Separator → PlainMatchers → Type 0
-  Ready part.comma cs = AreAnyMatchers cs
-  Ready (part.or text) cs = AreMatchers cs
+  Ready None cs = AreAnyMatchers cs
+  Ready (Some text) cs = AreMatchers cs
 
   ready : (s : part.Separator) (cs : PlainMatchers) → AreMatchers cs → Ready s cs
-  ready part.comma cs h = any_matchers cs h
-  ready (part.or text) cs h = h
+  ready None cs h = any_matchers cs h
+  ready (Some text) cs h = h
 
   all_append : (cs : List PlainMatcher) (c : PlainMatcher) → AllStand cs → Stands c → AllStand (cs ++ c ∷ [])
   all_append [] c h k = (k, tt)
@@ -128,23 +128,23 @@ module _ (g : Text → Answer) where
   groups_grown ((d ∷ ds) ∷ j ∷ gs) c h k = (h.0, groups_grown (j ∷ gs) c h.1 k)
 
   joined_stand : (s : part.Separator) (cs : PlainMatchers) (c : PlainMatcher) → Ready s cs → Stands c → AreMatchers (append_matcher s cs c)
-  joined_stand part.comma (plain_matchers [] []) c h k = (k, tt)
-  joined_stand part.comma (plain_matchers (d ∷ ds) []) c h k = all_append (d ∷ ds) c h k
-  joined_stand part.comma (plain_matchers [] (j ∷ [])) c h k = absurd h
-  joined_stand part.comma (plain_matchers [] (i ∷ j ∷ [])) c h k = groups_grown (i ∷ j ∷ []) c h k
-  joined_stand part.comma (plain_matchers [] (i ∷ j ∷ l ∷ gs)) c h k = groups_grown (i ∷ j ∷ l ∷ gs) c h k
-  joined_stand part.comma (plain_matchers (d ∷ ds) (j ∷ gs)) c h k = absurd h
-  joined_stand (part.or text) (plain_matchers [] []) c h k = absurd h
-  joined_stand (part.or text) (plain_matchers (d ∷ ds) []) c h k = (h, ((k, tt), tt))
-  joined_stand (part.or text) (plain_matchers [] (j ∷ [])) c h k = absurd h
-  joined_stand (part.or text) (plain_matchers [] (i ∷ j ∷ gs)) c h k = groups_append (i ∷ j ∷ gs) c h k
-  joined_stand (part.or text) (plain_matchers (d ∷ ds) (j ∷ gs)) c h k = absurd h
+  joined_stand None (plain_matchers [] []) c h k = (k, tt)
+  joined_stand None (plain_matchers (d ∷ ds) []) c h k = all_append (d ∷ ds) c h k
+  joined_stand None (plain_matchers [] (j ∷ [])) c h k = absurd h
+  joined_stand None (plain_matchers [] (i ∷ j ∷ [])) c h k = groups_grown (i ∷ j ∷ []) c h k
+  joined_stand None (plain_matchers [] (i ∷ j ∷ l ∷ gs)) c h k = groups_grown (i ∷ j ∷ l ∷ gs) c h k
+  joined_stand None (plain_matchers (d ∷ ds) (j ∷ gs)) c h k = absurd h
+  joined_stand (Some text) (plain_matchers [] []) c h k = absurd h
+  joined_stand (Some text) (plain_matchers (d ∷ ds) []) c h k = (h, ((k, tt), tt))
+  joined_stand (Some text) (plain_matchers [] (j ∷ [])) c h k = absurd h
+  joined_stand (Some text) (plain_matchers [] (i ∷ j ∷ gs)) c h k = groups_append (i ∷ j ∷ gs) c h k
+  joined_stand (Some text) (plain_matchers (d ∷ ds) (j ∷ gs)) c h k = absurd h
 
   items_are : (cs : PlainMatchers) (s : part.Separator) (is : part.Items) (ds : PlainMatchers) → Ready s cs → under g (items_value cs s is) ≡ Ok ds → AreMatchers ds
-  items_are cs s (part.last_item i) ds h e =
+  items_are cs s (part.last_item i false) ds h e =
       let step = giving_steps g (item_value i) (λ c. gives (append_matcher s cs c)) ds e in
       subst AreMatchers (same_ok _ _ _ _ refl refl step.leads) (joined_stand s cs step.value h (item_stands i step.value step.is))
-  items_are cs s (part.last_item_comma i) ds h e =
+  items_are cs s (part.last_item i true) ds h e =
       let step = giving_steps g (item_value i) (λ c. gives (append_matcher s cs c)) ds e in
       subst AreMatchers (same_ok _ _ _ _ refl refl step.leads) (joined_stand s cs step.value h (item_stands i step.value step.is))
   items_are cs s (part.next_item i t is) ds h e =
@@ -153,8 +153,8 @@ module _ (g : Text → Answer) where
       items_are (append_matcher s cs step.value) t is ds (ready t (append_matcher s cs step.value) next) step.leads
 
   pub braces_are : (b : part.Braces) (ds : PlainMatchers) → under g (braces_value b) ≡ Ok ds → AreAnyMatchers ds
-  braces_are part.no_item ds e = subst AreAnyMatchers (same_ok _ _ _ _ refl refl e) tt
-  braces_are (part.items is) ds e = any_matchers ds (items_are (plain_matchers [] []) part.comma is ds tt e)
+  braces_are None ds e = subst AreAnyMatchers (same_ok _ _ _ _ refl refl e) tt
+  braces_are (Some is) ds e = any_matchers ds (items_are (plain_matchers [] []) None is ds tt e)
 
   pub any_braces_are : (b : Option part.Braces) (ds : PlainMatchers) → under g (any_braces_value b) ≡ Ok ds → AreAnyMatchers ds
   any_braces_are None ds e = subst AreAnyMatchers (same_ok _ _ _ _ refl refl e) tt
@@ -165,7 +165,7 @@ module _ (g : Text → Answer) where
   -- a group after those before it
   abbrev append_all : part.Separator → PlainMatchers → PlainMatcher → List PlainMatcher → PlainMatchers
   append_all s cs c [] = append_matcher s cs c
-  append_all s cs c (d ∷ ds) = append_all part.comma (append_matcher s cs c) d ds
+  append_all s cs c (d ∷ ds) = append_all None (append_matcher s cs c) d ds
 
   abbrev follow : PlainMatchers → Option (part.Separator × part.Items) → Result PlainMatchers BuildError
   follow cs None = Ok cs
@@ -178,20 +178,20 @@ module _ (g : Text → Answer) where
   group_reads : (s : part.Separator) (cs : PlainMatchers) (c : PlainMatcher) (ds : List PlainMatcher) (more : Option (part.Separator × part.Items)) → AllStand (c ∷ ds) → under g (items_value cs s (group_items c ds more)) ≡ follow (append_all s cs c ds) more
   group_reads s cs c [] more h = followed_reads s cs c more h.0
   group_reads s cs c (d ∷ ds) more h =
-      giving_leads g (item_value (item c)) _ c _ (item_again c h.0) (group_reads part.comma (append_matcher s cs c) d ds more h.1)
+      giving_leads g (item_value (item c)) _ c _ (item_again c h.0) (group_reads None (append_matcher s cs c) d ds more h.1)
 
   abbrev all_added : PlainMatchers → List (List PlainMatcher) → PlainMatchers
   all_added cs [] = cs
   all_added cs ([] ∷ gs) = all_added cs gs
-  all_added cs ((d ∷ ds) ∷ gs) = all_added (append_all (part.or (codes "or")) cs d ds) gs
+  all_added cs ((d ∷ ds) ∷ gs) = all_added (append_all (Some (codes "or")) cs d ds) gs
 
   groups_read : (cs : PlainMatchers) (gs : List (List PlainMatcher)) → GroupsStand gs → follow cs (or_items gs) ≡ Ok (all_added cs gs)
   groups_read cs [] h = refl
   groups_read cs ([] ∷ gs) h = absurd h
-  groups_read cs ((d ∷ ds) ∷ gs) h = group_reads (part.or (codes "or")) cs d ds (or_items gs) h.0 ∙ groups_read (append_all (part.or (codes "or")) cs d ds) gs h.1
+  groups_read cs ((d ∷ ds) ∷ gs) h = group_reads (Some (codes "or")) cs d ds (or_items gs) h.0 ∙ groups_read (append_all (Some (codes "or")) cs d ds) gs h.1
 
   -- what these lists are
-  plain_added : (cs : List PlainMatcher) (c : PlainMatcher) (ds : List PlainMatcher) → append_all part.comma (plain_matchers cs []) c ds ≡ plain_matchers (cs ++ c ∷ ds) []
+  plain_added : (cs : List PlainMatcher) (c : PlainMatcher) (ds : List PlainMatcher) → append_all None (plain_matchers cs []) c ds ≡ plain_matchers (cs ++ c ∷ ds) []
   plain_added cs c [] = refl
   plain_added cs c (d ∷ ds) = plain_added (cs ++ c ∷ []) d ds ∙ ap (λ x. plain_matchers x []) (append_assoc cs (c ∷ []) (d ∷ ds))
 
@@ -203,15 +203,15 @@ module _ (g : Text → Answer) where
       groups_of : PlainMatchers → List (List PlainMatcher)
       groups_of (plain_matchers plain groups) = groups
 
-  last_added : (gs : List (List PlainMatcher)) (h : List PlainMatcher) (c : PlainMatcher) (ds : List PlainMatcher) → append_all part.comma (plain_matchers [] (gs ++ h ∷ [])) c ds ≡ plain_matchers [] (gs ++ (h ++ c ∷ ds) ∷ [])
+  last_added : (gs : List (List PlainMatcher)) (h : List PlainMatcher) (c : PlainMatcher) (ds : List PlainMatcher) → append_all None (plain_matchers [] (gs ++ h ∷ [])) c ds ≡ plain_matchers [] (gs ++ (h ++ c ∷ ds) ∷ [])
   last_added gs h c [] = grown_last gs h c
   last_added gs h c (d ∷ ds) =
-      ap (λ x. append_all part.comma x d ds) (grown_last gs h c) ∙ last_added gs (h ++ c ∷ []) d ds
+      ap (λ x. append_all None x d ds) (grown_last gs h c) ∙ last_added gs (h ++ c ∷ []) d ds
       ∙ ap (λ x. plain_matchers [] (gs ++ x ∷ [])) (append_assoc h (c ∷ []) (d ∷ ds))
 
-  append_or_all : (gs : List (List PlainMatcher)) (c : PlainMatcher) (ds : List PlainMatcher) (cs : PlainMatchers) → appended_or cs c ≡ plain_matchers [] (gs ++ (c ∷ []) ∷ []) → append_all (part.or (codes "or")) cs c ds ≡ plain_matchers [] (gs ++ (c ∷ ds) ∷ [])
+  append_or_all : (gs : List (List PlainMatcher)) (c : PlainMatcher) (ds : List PlainMatcher) (cs : PlainMatchers) → appended_or cs c ≡ plain_matchers [] (gs ++ (c ∷ []) ∷ []) → append_all (Some (codes "or")) cs c ds ≡ plain_matchers [] (gs ++ (c ∷ ds) ∷ [])
   append_or_all gs c [] cs e = e
-  append_or_all gs c (d ∷ ds) cs e = ap (λ x. append_all part.comma x d ds) e ∙ last_added gs (c ∷ []) d ds
+  append_or_all gs c (d ∷ ds) cs e = ap (λ x. append_all None x d ds) e ∙ last_added gs (c ∷ []) d ds
 
   more_added : (gs hs : List (List PlainMatcher)) → GroupsStand hs → all_added (plain_matchers [] gs) hs ≡ plain_matchers [] (gs ++ hs)
   more_added gs [] h = ap (λ x. plain_matchers [] x) (sym (append-nil gs))
@@ -234,7 +234,7 @@ module _ (g : Text → Answer) where
 
   any_items_again : (cs : List PlainMatcher) → AllStand cs → under g (any_braces_value (any_items cs)) ≡ Ok (plain_matchers cs [])
   any_items_again [] h = refl
-  any_items_again (c ∷ cs) h = group_reads part.comma (plain_matchers [] []) c cs None h ∙ ap Ok (plain_added [] c cs)
+  any_items_again (c ∷ cs) h = group_reads None (plain_matchers [] []) c cs None h ∙ ap Ok (plain_added [] c cs)
 
   pub braces_again : (cs : PlainMatchers) → AreAnyMatchers cs → under g (any_braces_value (braces cs)) ≡ Ok (normal_matchers cs)
   braces_again (plain_matchers [] []) h = refl
@@ -243,7 +243,7 @@ module _ (g : Text → Answer) where
   braces_again (plain_matchers [] ([] ∷ k ∷ gs)) h = absurd h
   braces_again (plain_matchers [] ((c ∷ cs) ∷ [] ∷ gs)) h = absurd h.1
   braces_again (plain_matchers [] ((c ∷ cs) ∷ (d ∷ ds) ∷ gs)) h =
-      group_reads part.comma (plain_matchers [] []) c cs (or_items ((d ∷ ds) ∷ gs)) h.0
+      group_reads None (plain_matchers [] []) c cs (or_items ((d ∷ ds) ∷ gs)) h.0
       ∙ ap (λ x. follow x (or_items ((d ∷ ds) ∷ gs))) (plain_added [] c cs)
       ∙ groups_read (plain_matchers (c ∷ cs) []) ((d ∷ ds) ∷ gs) h.1
       ∙ ap (λ x. Ok (all_added x gs)) (append_or_all ((c ∷ cs) ∷ []) d ds (plain_matchers (c ∷ cs) []) refl)

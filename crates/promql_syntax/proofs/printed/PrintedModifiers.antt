@@ -20,11 +20,14 @@ use Rattle.promql_ast.specs.Tree.{Tree, binary}
 use Rattle.promql_ast.specs.Types.{type_of}
 use Rattle.promql_ast.specs.check.BinaryChecks.{checked_binary, first_twice, label_fault, operator_fault, set_fault, settle_matching, settled_set, side_fault}
 use Rattle.promql_syntax.specs.BuildErrors.{BuildError}
-use Rattle.promql_syntax.specs.PartBuilding.{cardinality, fill_value, fills_value, group_value, is_blank, label_values, matching_value, modifier_value}
+use Rattle.promql_syntax.specs.PartBuilding.{fill_value, fills_value, group_value, label_values, matching_value, modifier_value}
 use Rattle.promql_syntax.proofs.printed.PrintedParts.{fill_words, flag, group, labels, matching_of_clause, modifier, value}
 use Rattle.promql_syntax.proofs.printed.PrintedTimesAndLabels.{signed_again, signed_is}
 use Rattle.promql_syntax.proofs.printed.PrintedWords.{labels_again, labels_formed}
 use Rattle.promql_syntax.proofs.building.SingleAnswers.{then_steps, then_leads, same_ok}
+use Rattle.promql_syntax.specs.PartWords.{cardinality, is_blank}
+use Rattle.promql_syntax.proofs.BlankModifiers.{by_blank}
+use Rattle.promql_grammar.specs.PartTokens.{IsGroup}
 
 -- ---- what is built of written modifiers
 
@@ -64,9 +67,9 @@ cardinality_written true ls = tt
 cardinality_written false ls = tt
 
 group_written : (g : part.Group) (card : Cardinality) → group_value g ≡ Ok card → IsWrittenCard card
-group_written part.no_group card e = subst IsWrittenCard (same_ok _ _ _ _ refl refl e) tt
-group_written (part.bare left text) card e = subst IsWrittenCard (same_ok _ _ _ _ refl refl e) (cardinality_written left [])
-group_written (part.listed left text ls) card e =
+group_written None card e = subst IsWrittenCard (same_ok _ _ _ _ refl refl e) tt
+group_written (Some (left, text, None)) card e = subst IsWrittenCard (same_ok _ _ _ _ refl refl e) (cardinality_written left [])
+group_written (Some (left, text, Some ls)) card e =
     let step = then_steps (label_values ls) (λ x. Ok (cardinality left x)) card e in
     subst IsWrittenCard (same_ok _ _ _ _ refl refl step.leads) (cardinality_written left step.value)
 
@@ -74,14 +77,14 @@ abbrev IsMatchedValue : Cardinality × Option Clause → Type 0
 IsMatchedValue x = IsGroupedAfter x.1 x.0 × IsWrittenCard x.0
 
 matching_is : (m : part.Matching) (x : Cardinality × Option Clause) → matching_value m ≡ Ok x → IsMatchedValue x
-matching_is part.no_matching x e = subst IsMatchedValue (same_ok _ _ _ _ refl refl e) (tt, tt)
-matching_is (part.matching on text ls g) x e =
+matching_is None x e = subst IsMatchedValue (same_ok _ _ _ _ refl refl e) (tt, tt)
+matching_is (Some (on, text, ls, g)) x e =
     let step = then_steps (label_values ls) (λ y. group_value g then λ c. Ok (c, Some (cond on (including y) (excluding y)))) x e in
     let next = then_steps (group_value g) (λ c. Ok (c, Some (cond on (including step.value) (excluding step.value)))) x step.leads in
     subst IsMatchedValue (same_ok _ _ _ _ refl refl next.leads) (tt, group_written g next.value next.is)
 
 fill_is : (v : part.FillValue) (n : Number) → fill_value v ≡ Ok n → IsNumber n
-fill_is v n e = signed_is v.sign v.number n e
+fill_is v n e = signed_is v.0 v.1 n e
 
 fills_are : (f : part.Fills) (x : Fills) → fills_value f ≡ Ok x → AreFills x
 fills_are part.no_fill x e = subst AreFills (same_ok _ _ _ _ refl refl e) (tt, tt)
@@ -108,18 +111,18 @@ abbrev IsModifierValue : Option Matching → Type 0
 IsModifierValue m = IsMatched m × IsWritten m
 
 pub modifier_is : (w : part.Modifier) (m : Option Matching) → modifier_value w ≡ Ok m → IsModifierValue m
-modifier_is w m e = go (is_blank w.flag w.matching w.fills) e
+modifier_is w m e = go (is_blank w) (sym (by_blank w) ∙ e)
   where
     made : Cardinality × Option Clause → Fills → Result (Option Matching) BuildError
-    made c f = Ok (Some (matching c.0 c.1 (is_some w.flag) f))
+    made c f = Ok (Some (matching c.0 c.1 (is_some w.0) f))
 
-    go : (b : Bool) → cond b (Ok None) (matching_value w.matching then λ c. fills_value w.fills then λ f. made c f) ≡ Ok m → IsModifierValue m
+    go : (b : Bool) → cond b (Ok None) (matching_value w.1 then λ c. fills_value w.2 then λ f. made c f) ≡ Ok m → IsModifierValue m
     go true e = subst IsModifierValue (same_ok _ _ _ _ refl refl e) (tt, tt)
     go false e =
-        let step = then_steps (matching_value w.matching) (λ c. fills_value w.fills then λ f. made c f) m e in
-        let next = then_steps (fills_value w.fills) (λ f. made step.value f) m step.leads in
-        let is = matching_is w.matching step.value step.is in
-        subst IsModifierValue (same_ok _ _ _ _ refl refl next.leads) ((is.0, fills_are w.fills next.value next.is), is.1)
+        let step = then_steps (matching_value w.1) (λ c. fills_value w.2 then λ f. made c f) m e in
+        let next = then_steps (fills_value w.2) (λ f. made step.value f) m step.leads in
+        let is = matching_is w.1 step.value step.is in
+        subst IsModifierValue (same_ok _ _ _ _ refl refl next.leads) ((is.0, fills_are w.2 next.value next.is), is.1)
 
 -- ---- what a printed modifier builds
 
@@ -174,12 +177,12 @@ kept_labels card c b values = refl
 -- nothing is written exactly where the rest is the default
 abbrev BlankIfDefault : Bool → Option Clause → Cardinality → Fills → Type 0
 BlankIfDefault b c card values =
-    let blank = is_blank (flag b) (matching_of_clause c (group card)) (fill_words values) in
+    let blank = is_blank (flag b, matching_of_clause c (group card), fill_words values) in
     let kept = unless_default (matching (plain_card card) c b values) in
     ((blank ≡ true) × (kept ≡ None)) ⊎ ((blank ≡ false) × (kept ≡ Some (matching (plain_card card) c b values)))
 
 blank_fills : (values : Fills) →
-    let blank = is_blank None part.no_matching (fill_words values) in
+    let blank = is_blank (None, None, fill_words values) in
     let kept = unless_default (matching one_to_one None false values) in
     ((blank ≡ true) × (kept ≡ None)) ⊎ ((blank ≡ false) × (kept ≡ Some (matching one_to_one None false values)))
 blank_fills (fills None None) = inl (refl, refl)
@@ -187,7 +190,7 @@ blank_fills (fills (Some r) None) = inr (refl, refl)
 blank_fills (fills None (Some l)) = inr (refl, refl)
 blank_fills (fills (Some r) (Some l)) = inr (go (number_eq l r), refl)
   where
-    go : (b : Bool) → is_blank None part.no_matching (cond b (part.both (codes "fill") (value l)) (part.two true (codes "fill_left") (value l) (codes "fill_right") (value r))) ≡ false
+    go : (b : Bool) → is_blank (None, None, cond b (part.both (codes "fill") (value l)) (part.two true (codes "fill_left") (value l) (codes "fill_right") (value r))) ≡ false
     go true = refl
     go false = refl
 
@@ -205,8 +208,8 @@ flag_again true = refl
 flag_again false = refl
 
 written_again : (b : Bool) (c : Option Clause) (card : Cardinality) (values : Fills) → IsGroupedAfter c card → AreFills values
-    → modifier_value (record { flag = flag b; matching = matching_of_clause c (group card); fills = fill_words values }) ≡ Ok (unless_default (matching (plain_card card) c b values))
-written_again b c card values h k = ⊎_elim
+    → modifier_value (flag b, matching_of_clause c (group card), fill_words values) ≡ Ok (unless_default (matching (plain_card card) c b values))
+written_again b c card values h k = by_blank (flag b, matching_of_clause c (group card), fill_words values) ∙ ⊎_elim
     (λ x. ap (λ o. cond o (Ok None) rest) x.0 ∙ ap Ok (sym x.1))
     (λ x. ap (λ o. cond o (Ok None) rest) x.0 ∙ all ∙ ap Ok (sym x.1))
     (blank_modifier b c card values h)
@@ -425,7 +428,7 @@ checked_again op l r l' r' m m' t el er a c =
 
 -- ---- the grammar's conditions
 
-group_formed : (card : Cardinality) → part.IsGroup (group card)
+group_formed : (card : Cardinality) → IsGroup (group card)
 group_formed one_to_one = tt
 group_formed (many_to_one ls) = labels_formed ls
 group_formed (one_to_many ls) = labels_formed ls
@@ -436,7 +439,7 @@ matched_formed None card = tt
 matched_formed (Some (including ls)) card = (labels_formed ls, group_formed card)
 matched_formed (Some (excluding ls)) card = (labels_formed ls, group_formed card)
 
-pub modifier_formed : (m : Option Matching) → part.IsMatching (modifier m).matching
+pub modifier_formed : (m : Option Matching) → part.IsMatching (modifier m).1
 modifier_formed None = tt
 modifier_formed (Some (matching card c b values)) = matched_formed (normal_matched (is_grouping card) c) card
 
@@ -452,6 +455,6 @@ fits_matched (Some (excluding ls)) (many_to_one ks) f ts = tt
 fits_matched (Some (excluding ls)) (one_to_many ks) f ts = tt
 fits_matched (Some (excluding ls)) many_to_many f ts = tt
 
-pub fits_printed : (m : Option Matching) (ts : List Symbol) → FitsMatching (modifier m).matching (modifier m).fills ts
+pub fits_printed : (m : Option Matching) (ts : List Symbol) → FitsMatching (modifier m).1 (modifier m).2 ts
 fits_printed None ts = tt
 fits_printed (Some (matching card c b values)) ts = fits_matched (normal_matched (is_grouping card) c) card (fill_words values) ts

@@ -30,15 +30,15 @@ word_kind text = token_kind (word_id text [])
 -- ---- numbers
 
 abbrev pub sign : Bool → part.Signed
-sign true = part.signed true (codes "-")
-sign false = part.unsigned
+sign true = Some (true, (codes "-"))
+sign false = None
 
 -- the number without its sign
 abbrev pub magnitude : Number → Number
 magnitude n = if is_below_zero n then neg n else n
 
 abbrev pub value : Number → part.FillValue
-value n = record { sign = sign (is_below_zero n); number = number_text (magnitude n) }
+value n = (sign (is_below_zero n), number_text (magnitude n))
 
 -- ---- times
 
@@ -74,24 +74,24 @@ labels [] = part.no_label
 labels (l ∷ ls) = names l ls
 
 abbrev pub clause : Option Clause → part.Clause
-clause None = part.no_clause
-clause (Some (including [])) = part.no_clause
-clause (Some (including (l ∷ ls))) = part.before (part.grouping true (codes "by") (labels (l ∷ ls)))
-clause (Some (excluding ls)) = part.before (part.grouping false (codes "without") (labels ls))
+clause None = None
+clause (Some (including [])) = None
+clause (Some (including (l ∷ ls))) = Some (true, (true, (codes "by"), (labels (l ∷ ls))))
+clause (Some (excluding ls)) = Some (true, (false, (codes "without"), (labels ls)))
 
 -- ---- modifiers
 
 -- a grouping word always has its list
 abbrev pub group : Cardinality → part.Group
-group one_to_one = part.no_group
-group (many_to_one ls) = part.listed true (codes "group_left") (labels ls)
-group (one_to_many ls) = part.listed false (codes "group_right") (labels ls)
-group many_to_many = part.no_group
+group one_to_one = None
+group (many_to_one ls) = Some (true, (codes "group_left"), Some (labels ls))
+group (one_to_many ls) = Some (false, (codes "group_right"), Some (labels ls))
+group many_to_many = None
 
 abbrev pub matching_of_clause : Option Clause → part.Group → part.Matching
-matching_of_clause None g = part.no_matching
-matching_of_clause (Some (including ls)) g = part.matching true (codes "on") (labels ls) g
-matching_of_clause (Some (excluding ls)) g = part.matching false (codes "ignoring") (labels ls) g
+matching_of_clause None g = None
+matching_of_clause (Some (including ls)) g = Some (true, (codes "on"), (labels ls), g)
+matching_of_clause (Some (excluding ls)) g = Some (false, (codes "ignoring"), (labels ls), g)
 
 abbrev pub fill_words : Fills → part.Fills
 fill_words (fills None None) = part.no_fill
@@ -106,9 +106,9 @@ flag true = Some (codes "bool")
 flag false = None
 
 abbrev pub modifier : Option Matching → part.Modifier
-modifier None = record { flag = None; matching = part.no_matching; fills = part.no_fill }
+modifier None = (None, None, part.no_fill)
 modifier (Some (matching card c return_bool values)) =
-    record { flag = flag return_bool; matching = matching_of_clause (normal_matched (is_grouping card) c) (group card); fills = fill_words values }
+    (flag return_bool, matching_of_clause (normal_matched (is_grouping card) c) (group card), fill_words values)
 
 -- ---- matchers
 
@@ -129,23 +129,23 @@ item (plain_matcher op name text) = part.matcher (is_quoted name) (name_text nam
 
 -- the items from a matcher on, with those of further groups
 abbrev pub items_of : part.Item → Option (part.Separator × part.Items) → part.Items
-items_of i None = part.last_item i
+items_of i None = part.last_item i false
 items_of i (Some (s, is)) = part.next_item i s is
 
 abbrev pub group_items : PlainMatcher → List PlainMatcher → Option (part.Separator × part.Items) → part.Items
 group_items c [] more = items_of (item c) more
-group_items c (d ∷ ds) more = part.next_item (item c) part.comma (group_items d ds more)
+group_items c (d ∷ ds) more = part.next_item (item c) None (group_items d ds more)
 
 abbrev pub or_items : List (List PlainMatcher) → Option (part.Separator × part.Items)
 or_items [] = None
 or_items ([] ∷ groups) = or_items groups
-or_items ((c ∷ cs) ∷ groups) = Some (part.or (codes "or"), group_items c cs (or_items groups))
+or_items ((c ∷ cs) ∷ groups) = Some (Some (codes "or"), group_items c cs (or_items groups))
 
 abbrev pub any_items : List PlainMatcher → Option part.Braces
 any_items [] = None
-any_items (c ∷ cs) = Some (part.items (group_items c cs None))
+any_items (c ∷ cs) = Some (Some (group_items c cs None))
 
 -- the matchers in order of their texts; where there are groups, these alone
 abbrev pub braces : PlainMatchers → Option part.Braces
 braces (plain_matchers plain []) = any_items (sorted_matchers plain)
-braces (plain_matchers plain (g ∷ groups)) = option_map (λ x. part.items x.1) (or_items (g ∷ groups))
+braces (plain_matchers plain (g ∷ groups)) = option_map (λ x. Some x.1) (or_items (g ∷ groups))

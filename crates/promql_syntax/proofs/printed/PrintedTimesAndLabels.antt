@@ -27,10 +27,11 @@ use Rattle.promql_grammar.specs.Results.{◌then◌}
 use Rattle.promql_grammar.specs.GrammarParts as part
 use Rattle.promql_syntax.specs.BuildErrors.{BuildError}
 use Rattle.promql_syntax.specs.BuildErrors as errors
-use Rattle.promql_syntax.specs.PartBuilding.{string_value, number_value, signed_number, duration_value, time_value, step_value, on_error}
+use Rattle.promql_syntax.specs.PartBuilding.{string_value, number_value, signed_number, duration_value, time_value, on_error}
 use Rattle.promql_grammar.specs.GrammarParts.{is_minus}
 use Rattle.promql_syntax.proofs.printed.PrintedParts.{sign, magnitude, time}
 use Rattle.promql_syntax.proofs.building.SingleAnswers.{then_steps, then_leads, same_ok}
+use Rattle.promql_syntax.specs.PartWords.{step_value}
 
 -- ---- strings
 

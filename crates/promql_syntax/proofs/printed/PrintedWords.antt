@@ -21,11 +21,13 @@ use Rattle.promql_grammar.specs.Symbols.{token_kind, may_be_label}
 use Rattle.promql_label.specs.Labels.{is_number_word, label_text}
 use Rattle.promql_kind.specs.Modifiers.{Clause, including, excluding}
 use Rattle.promql_ast.specs.Normal.{normal_clause}
-use Rattle.promql_syntax.specs.PartBuilding.{label_value, label_values, grouping_value, clause_value}
+use Rattle.promql_syntax.specs.PartBuilding.{label_value, label_values, grouping_value}
 use Rattle.promql_syntax.proofs.parsing.Booleans.{and_cases, or_cases}
 use Rattle.promql_syntax.proofs.printed.PrintedParts.{word_kind, label_kind, names, labels, clause}
 use Rattle.promql_syntax.proofs.printed.PrintedTimesAndLabels.{string_again}
 use Rattle.promql_syntax.proofs.building.SingleAnswers.{then_leads}
+use Rattle.promql_syntax.specs.PartWords.{clause_value}
+use Rattle.promql_grammar.specs.PartTokens.{IsClause}
 
 -- ---- words that may be labels
 
@@ -154,13 +156,13 @@ pub clause_again : (c : Option Clause) → clause_value (clause c) ≡ Ok (norma
 clause_again None = refl
 clause_again (Some (including [])) = refl
 clause_again (Some (including (l ∷ ls))) =
-    then_leads (grouping_value (part.grouping true (codes "by") (labels (l ∷ ls)))) _ (including (l ∷ ls)) _
+    then_leads (grouping_value (true, (codes "by"), (labels (l ∷ ls)))) _ (including (l ∷ ls)) _
     (then_leads (label_values (labels (l ∷ ls))) _ (l ∷ ls) _ (labels_again (l ∷ ls)) refl) refl
 clause_again (Some (excluding ls)) =
-    then_leads (grouping_value (part.grouping false (codes "without") (labels ls))) _ (excluding ls) _
+    then_leads (grouping_value (false, (codes "without"), (labels ls))) _ (excluding ls) _
     (then_leads (label_values (labels ls)) _ ls _ (labels_again ls) refl) refl
 
-pub clause_formed : (c : Option Clause) → part.IsClause (clause c)
+pub clause_formed : (c : Option Clause) → IsClause (clause c)
 clause_formed None = tt
 clause_formed (Some (including [])) = tt
 clause_formed (Some (including (l ∷ ls))) = labels_formed (l ∷ ls)

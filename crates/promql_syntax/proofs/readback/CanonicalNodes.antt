@@ -38,9 +38,9 @@ use Rattle.promql_ast.specs.check.BinaryChecks.{checked_binary, settle_matching}
 use Rattle.promql_ast.specs.check.VectorChecks.{name_fault}
 use Rattle.promql_ast.specs.declared.range_mode.RangeMode.TheVariants.{Plain}
 use Rattle.promql_syntax.specs.Asking.{under}
-use Rattle.promql_syntax.specs.Building.{build, build_all, build_call, selector_tree}
+use Rattle.promql_syntax.specs.Building.{build, build_all, selector_tree}
 use Rattle.promql_syntax.proofs.readback.Derive.{derive, derive_all, derive_base, HasWords, IsName, IsUnsigned}
-use Rattle.promql_syntax.specs.PartBuilding.{braces_value, clause_value, modifier_value, number_value, string_value, step_value, time_value}
+use Rattle.promql_syntax.specs.PartBuilding.{braces_value, modifier_value, number_value, string_value, time_value}
 use Rattle.promql_syntax.specs.Atoms.{any_braces_value}
 use Rattle.promql_syntax.proofs.printed.PrintedParts.{braces, clause, modifier, time, word_kind}
 use Rattle.promql_syntax.proofs.readback.Canonical.{Keeps, AllKept, base_is, open_base, open_most, right_low, root_weaker, some_height}
@@ -53,6 +53,7 @@ use Rattle.promql_syntax.proofs.printed.PrintedModifiers.{PassesChecks, IsMatche
 use Rattle.promql_syntax.proofs.printed.PrintedTimesAndLabels.{IsStep, IsTime, below_zero, number_again, step_again, string_again, time_again}
 use Rattle.promql_syntax.proofs.printed.PrintedWords.{clause_again, clause_formed}
 use Rattle.promql_syntax.proofs.building.SingleAnswers.{giving_leads, known_leads, pass_checks, passes_passing}
+use Rattle.promql_syntax.specs.PartWords.{build_call, clause_value, step_value}
 
 -- ---- numbers
 
@@ -191,7 +192,7 @@ module _ (g : Text → Answer) where
       words (Some b) = tt
 
       again : (b : Option part.Braces) → under g (any_braces_value b) ≡ Ok (normal_matchers cs) → under g (build (derive_base None b)) ≡ Ok (vector (selector None (normal_matchers cs) None None))
-      again None k = giving_leads g (braces_value part.no_item) (λ x. selector_tree None x) (normal_matchers cs) (Ok (vector (selector None (normal_matchers cs) None None))) k (selector_again None cs e)
+      again None k = giving_leads g (braces_value None) (λ x. selector_tree None x) (normal_matchers cs) (Ok (vector (selector None (normal_matchers cs) None None))) k (selector_again None cs e)
       again (Some b) k = giving_leads g (braces_value b) (λ x. selector_tree None x) (normal_matchers cs) (Ok (vector (selector None (normal_matchers cs) None None))) k (selector_again None cs e)
 
   -- ---- parentheses and unary operators

@@ -38,10 +38,10 @@ same_yield z c d first second =
 
 pub one_tree : (g : Text → Answer) (z : Text) (s t : Tree) → HasTree g z s → HasTree g z t → s ≡ t
 one_tree g z s t first second =
-    let a = first.derives in
-    let b = second.derives in
-    let same = one_derivation first.derivation second.derivation a.formed b.formed (same_yield z first.derivation second.derivation a b) in
-    same_ok _ _ _ _ first.builds second.builds (ap (λ d. under g (build d)) same)
+    let a = first.1 in
+    let b = second.1 in
+    let same = one_derivation first.0 second.0 a.formed b.formed (same_yield z first.0 second.0 a b) in
+    same_ok _ _ _ _ first.3 second.3 (ap (λ d. under g (build d)) same)
 
 -- ---- answers
 
@@ -53,20 +53,20 @@ built_ok (Err e) t same = cc
 pub answer_has : (g : Text → Answer) (source : Text) (answers : List Asked) (t : Tree) → IsServed source answers (Ok t) → AreAnswersOf g answers → HasTree g source t
 answer_has g source answers t s single =
     let b = s.built (Ok t) refl in
-    record { derivation = b.0; derives = b.1; low = b.2; builds = built_ok (under g (build b.0)) t (s.single g single b.0 b.1 b.2) }
+    (b.0, b.1, b.2, built_ok (under g (build b.0)) t (s.single g single b.0 b.1 b.2))
 
 -- where the text has a tree, the answer is it
 pub has_answer : (g : Text → Answer) (source : Text) (answers : List Asked) (answer : Result Tree PlainParseError) (t : Tree) → IsServed source answers answer → AreAnswersOf g answers → HasTree g source t → answer ≡ Ok t
-has_answer g source answers answer t s single h = s.single g single h.derivation h.derives h.low ∙ ap (on_error fault) h.builds
+has_answer g source answers answer t s single h = s.single g single h.0 h.1 h.2 ∙ ap (on_error fault) h.3
 
 module _ (g : Text → Answer) where
-  keeps_of : (source : Text) (t : Tree) → (h : HasTree g source t) → Keeps g h.derivation t
-  keeps_of source t h = let s = h.derives in keeps g h.derivation t s.formed (has_words source h.derivation s) h.builds
+  keeps_of : (source : Text) (t : Tree) → (h : HasTree g source t) → Keeps g h.0 t
+  keeps_of source t h = let s = h.1 in keeps g h.0 t s.formed (has_words source h.0 s) h.3
 
   has_normal : (source : Text) (t : Tree) (z : Text) → HasTree g source t → Derives z (derive t) → HasTree g z (normal t)
   has_normal source t z h derives =
       let k = keeps_of source t h in
-      record { derivation = derive t; derives = derives; low = omega (arith, k.low, h.low); builds = k.again }
+      (derive t, derives, omega (arith, k.low, h.2), k.again)
 
   -- ---- one line
 

@@ -21,10 +21,10 @@ use Rattle.promql_ast.specs.Selectors.{selector}
 use Rattle.promql_ast.specs.Tree.{Tree, aggregate, unary, binary, paren, subquery, number, string, vector, matrix, call, Trees, first_tree}
 use Rattle.promql_ast.specs.check.BinaryChecks.{checked_binary}
 use Rattle.promql_syntax.specs.Asking.{gives, ◌giving◌, known, under}
-use Rattle.promql_syntax.specs.Building.{build, build_all, build_call, from_verdict, from_checked_verdict, selector_tree, build_postfix, build_unary}
+use Rattle.promql_syntax.specs.Building.{build, build_all, from_verdict, from_checked_verdict, selector_tree, build_postfix}
 use Rattle.promql_syntax.specs.Postfixes.{bound_moment, range_mode}
 use Rattle.promql_syntax.proofs.readback.Derive.{AllHaveWords, HasWords, IsName, IsUnsigned}
-use Rattle.promql_syntax.specs.PartBuilding.{braces_value, clause_value, duration_value, modifier_value, moment_value, number_value, shift_value, step_value, string_value, time_value}
+use Rattle.promql_syntax.specs.PartBuilding.{braces_value, duration_value, modifier_value, moment_value, number_value, shift_value, string_value, time_value}
 use Rattle.promql_syntax.specs.Atoms.{any_braces_value}
 use Rattle.promql_syntax.proofs.readback.Canonical.{AllKept, Canon, Keeps, canon_at, canon_mode, canon_offset, core, some_height, whole}
 use Rattle.promql_syntax.proofs.readback.CanonicalNodes.{all_more, all_none, keeps_aggregate, keeps_binary, keeps_call, keeps_minus, keeps_named, keeps_nameless, keeps_number, keeps_paren, keeps_plus, keeps_range, keeps_string, keeps_subquery, nanos_above, selector_passes, selects}
@@ -34,6 +34,7 @@ use Rattle.promql_syntax.proofs.printed.PrintedModifiers.{binary_checked, modifi
 use Rattle.promql_syntax.proofs.printed.PrintedTimes.{bound_is, moment_is, shift_is}
 use Rattle.promql_syntax.proofs.printed.PrintedTimesAndLabels.{nanos_number, number_is, step_is, time_is}
 use Rattle.promql_syntax.proofs.building.SingleAnswers.{checks_pass, giving_steps, known_steps, passing_passes, same_ok}
+use Rattle.promql_syntax.specs.PartWords.{build_call, build_unary, clause_value, step_value}
 
 module _ (g : Text → Answer) where
   -- ---- postfixes

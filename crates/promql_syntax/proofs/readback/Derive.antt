@@ -32,7 +32,7 @@ derive_number n =
 abbrev pub derive_base : Option Text → Option part.Braces → Derivation
 derive_base (Some name) b = grammar.selector (word_kind name) name b
 derive_base None (Some b) = grammar.nameless b
-derive_base None None = grammar.nameless part.no_item
+derive_base None None = grammar.nameless None
 
 -- a range mode, `@` and `offset`, in the order in which they are printed
 abbrev pub with_mode : RangeMode → Derivation → Derivation

@@ -19,9 +19,9 @@ use Rattle.promql_grammar.specs.declared.token_kinds.TokenKind.{TokenKind}
 use Rattle.promql_grammar.specs.declared.token_kinds.TokenKind.TheVariants as kind
 use Rattle.promql_grammar.specs.declared.token_kinds.TheConstants.{TOKEN_KINDS}
 use Rattle.promql_grammar.specs.Grammar as grammar
-use Rattle.promql_grammar.specs.Grammar.{Derivation, Arguments, yield, yield_arguments, yield_rest, IsWellFormed, AreWellFormed}
+use Rattle.promql_grammar.specs.Grammar.{Derivation, Arguments, yield, yield_arguments, IsWellFormed, AreWellFormed}
 use Rattle.promql_grammar.specs.GrammarParts as part
-use Rattle.promql_grammar.specs.PartTokens.{yield_flag, yield_step}
+use Rattle.promql_grammar.specs.PartTokens.{yield_flag, yield_step, yield_rest, yield_any_braces}
 use Rattle.promql_grammar.specs.Results.{on_result}
 use Rattle.promql_grammar.specs.Symbols.{Symbol, is_punct, token_kind, may_be_called, may_be_name, punct, symbol_of, word}
 use Rattle.promql_syntax.specs.ParseAnswers.{Derives}
@@ -187,8 +187,8 @@ time_out (part.seconds text) = refl
 time_out (part.duration text) = refl
 
 signed_out : (s : part.Signed) → inside_after false (part.yield_signed s) ≡ false
-signed_out part.unsigned = refl
-signed_out (part.signed minus text) = refl
+signed_out None = refl
+signed_out (Some (minus, text)) = refl
 
 names_out : (n : part.Labels) → inside_after false (part.yield_names n) ≡ false
 names_out part.no_label = refl
@@ -199,29 +199,29 @@ labels_out : (ls : part.Labels) → inside_after false (part.yield_labels ls) �
 labels_out ls = names_out ls
 
 grouping_out : (g : part.Grouping) → inside_after false (part.yield_grouping g) ≡ false
-grouping_out (part.grouping by text ls) = labels_out ls
+grouping_out (by, text, ls) = labels_out ls
 
 before_out : (c : part.Clause) → inside_after false (part.yield_before c) ≡ false
-before_out part.no_clause = refl
-before_out (part.before g) = grouping_out g
-before_out (part.after g) = refl
+before_out None = refl
+before_out (Some (true, g)) = grouping_out g
+before_out (Some (false, g)) = refl
 
 after_out : (c : part.Clause) → inside_after false (part.yield_after c) ≡ false
-after_out part.no_clause = refl
-after_out (part.before g) = refl
-after_out (part.after g) = grouping_out g
+after_out None = refl
+after_out (Some (true, g)) = refl
+after_out (Some (false, g)) = grouping_out g
 
 group_out : (g : part.Group) → inside_after false (part.yield_group g) ≡ false
-group_out part.no_group = refl
-group_out (part.bare left text) = refl
-group_out (part.listed left text ls) = labels_out ls
+group_out None = refl
+group_out (Some (left, text, None)) = refl
+group_out (Some (left, text, Some ls)) = labels_out ls
 
 matching_out : (m : part.Matching) → inside_after false (part.yield_matching m) ≡ false
-matching_out part.no_matching = refl
-matching_out (part.matching on text ls g) = both (part.yield_labels ls) (part.yield_group g) (labels_out ls) (group_out g)
+matching_out None = refl
+matching_out (Some (on, text, ls, g)) = both (part.yield_labels ls) (part.yield_group g) (labels_out ls) (group_out g)
 
 value_out : (v : part.FillValue) → inside_after false (part.yield_value v) ≡ false
-value_out v = both (part.yield_signed v.sign) (word kind.Number v.number ∷ punct kind.RightParen ∷ []) (signed_out v.sign) refl
+value_out v = both (part.yield_signed v.0) (word kind.Number v.1 ∷ punct kind.RightParen ∷ []) (signed_out v.0) refl
 
 fills_out : (f : part.Fills) → inside_after false (part.yield_fills f) ≡ false
 fills_out part.no_fill = refl
@@ -235,8 +235,8 @@ flag_out (Some text) = refl
 
 modifier_out : (m : part.Modifier) → inside_after false (part.yield_modifier m) ≡ false
 modifier_out m =
-    both (yield_flag m.flag) (part.yield_matching m.matching ++ part.yield_fills m.fills) (flag_out m.flag)
-    (both (part.yield_matching m.matching) (part.yield_fills m.fills) (matching_out m.matching) (fills_out m.fills))
+    both (yield_flag m.0) (part.yield_matching m.1 ++ part.yield_fills m.2) (flag_out m.0)
+    (both (part.yield_matching m.1) (part.yield_fills m.2) (matching_out m.1) (fills_out m.2))
 
 match_inside : (s : part.MatchOperator) (ts : List Symbol) → inside_after true (part.yield_match_operator s ∷ ts) ≡ inside_after true ts
 match_inside part.equal ts = refl
@@ -252,19 +252,19 @@ inside_then : (i : part.Item) (us : List Symbol) → inside_after true us ≡ fa
 inside_then i us more = inside_after_append true (part.yield_item i) us ∙ ap (λ b. inside_after b us) (item_inside i) ∙ more
 
 separator_inside : (s : part.Separator) (ts : List Symbol) → inside_after true (part.yield_separator s ∷ ts) ≡ inside_after true ts
-separator_inside part.comma ts = refl
-separator_inside (part.or text) ts = refl
+separator_inside None ts = refl
+separator_inside (Some text) ts = refl
 
 items_out : (is : part.Items) → inside_after true (part.yield_items is) ≡ false
-items_out (part.last_item i) = inside_then i (punct kind.RightBrace ∷ []) refl
-items_out (part.last_item_comma i) = inside_then i (punct kind.Comma ∷ punct kind.RightBrace ∷ []) refl
+items_out (part.last_item i false) = inside_then i (punct kind.RightBrace ∷ []) refl
+items_out (part.last_item i true) = inside_then i (punct kind.Comma ∷ punct kind.RightBrace ∷ []) refl
 items_out (part.next_item i s is) = inside_then i (part.yield_separator s ∷ part.yield_items is) (separator_inside s (part.yield_items is) ∙ items_out is)
 
 braces_out : (b : part.Braces) → inside_after false (part.yield_braces b) ≡ false
-braces_out part.no_item = refl
-braces_out (part.items is) = items_out is
+braces_out None = refl
+braces_out (Some is) = items_out is
 
-any_braces_out : (b : Option part.Braces) → inside_after false (part.yield_any_braces b) ≡ false
+any_braces_out : (b : Option part.Braces) → inside_after false (yield_any_braces b) ≡ false
 any_braces_out None = refl
 any_braces_out (Some b) = braces_out b
 
@@ -291,13 +291,13 @@ mutual
   all_out (grammar.paren d) = both (yield d) (punct kind.RightParen ∷ []) (all_out d) refl
   all_out (grammar.call k text ds) = arguments_out ds
   all_out (grammar.aggregate op text c ds) =
-      both (part.yield_before c) (punct kind.LeftParen ∷ (yield_arguments ds ++ part.yield_after c)) (before_out c) (both (yield_arguments ds) (part.yield_after c) (arguments_out ds) (after_out c))
+      both (part.yield_before c) (punct kind.LeftParen ∷ (yield_arguments [] ds ++ part.yield_after c)) (before_out c) (both (yield_arguments [] ds) (part.yield_after c) (arguments_out ds) (after_out c))
   all_out (grammar.postfixed d p) = both (yield d) (part.yield_postfix p) (all_out d) (postfix_out p)
   all_out (grammar.unary op text d) = all_out d
   all_out (grammar.binary op text m l r) =
       both (yield l) (word (kind.Operator op) text ∷ (part.yield_modifier m ++ yield r)) (all_out l) (both (part.yield_modifier m) (yield r) (modifier_out m) (all_out r))
 
-  arguments_out : (ds : Arguments) → inside_after false (yield_arguments ds) ≡ false
+  arguments_out : (ds : Arguments) → inside_after false (yield_arguments [] ds) ≡ false
   arguments_out grammar.none = refl
   arguments_out (grammar.more d ds) = both (yield d) (yield_rest ds) (all_out d) (rest_out ds)
 
@@ -323,7 +323,7 @@ mutual
   words_fit (grammar.paren d) h f = words_fit d h (left_fits false (yield d) (punct kind.RightParen ∷ []) f)
   words_fit (grammar.call k text ds) h f = ((f.0 refl).name (called_may_be_name k h.0), arguments_fit ds h.1 f.1)
   words_fit (grammar.aggregate op text c ds) h f =
-      arguments_fit ds h.1 (left_fits false (yield_arguments ds) (part.yield_after c) (past_fits (part.yield_before c) (punct kind.LeftParen ∷ (yield_arguments ds ++ part.yield_after c)) (before_out c) f.1))
+      arguments_fit ds h.1 (left_fits false (yield_arguments [] ds) (part.yield_after c) (past_fits (part.yield_before c) (punct kind.LeftParen ∷ (yield_arguments [] ds ++ part.yield_after c)) (before_out c) f.1))
   words_fit (grammar.postfixed d p) h f = words_fit d h.0 (left_fits false (yield d) (part.yield_postfix p) f)
   words_fit (grammar.unary op text d) h f = words_fit d h.1 f.1
   words_fit (grammar.binary op text m l r) h f =
@@ -333,7 +333,7 @@ mutual
         (rest.0 refl).operator op refl,
       )
 
-  arguments_fit : (ds : Arguments) → AreWellFormed ds → AllFit false (yield_arguments ds) → AllHaveWords ds
+  arguments_fit : (ds : Arguments) → AreWellFormed ds → AllFit false (yield_arguments [] ds) → AllHaveWords ds
   arguments_fit grammar.none h f = tt
   arguments_fit (grammar.more d ds) h f = (words_fit d h.0 (left_fits false (yield d) (yield_rest ds) f), rest_fits ds h.1 (past_fits (yield d) (yield_rest ds) (all_out d) f))
 

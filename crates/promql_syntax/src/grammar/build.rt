@@ -15,12 +15,13 @@ ghost use Rattle.promql_grammar.specs.Results.{◌then◌};
 ghost use Rattle.promql_grammar.specs.declared.token_kinds.TokenKind as kinds;
 ghost use Rattle.promql_syntax.specs.BuildErrors.{build_error_of, check, view_result};
 ghost use Rattle.promql_syntax.specs.ParsesExpr.{AreArgsOf, IsExprOf, tree_result, append_derivation, modifier_of, outcome};
-ghost use Rattle.promql_syntax.specs.PartBuilding.{clause_value, modifier_value};
+ghost use Rattle.promql_syntax.specs.PartBuilding.{modifier_value};
 ghost use Rattle.promql_kind.specs.ModifierViews.{clause_of, matching_of};
 ghost use Rattle.promql_syntax.specs.Asking.{◌giving◌, known, EndsIn};
 ghost use Rattle.promql_syntax.specs.Building.{from_verdict};
 ghost use Rattle.promql_syntax.specs.Placing.{HasModifierPlace, IsCallAt, IsCheck, IsModifierAt, IsPostfixAt, left_after, tokens_between};
 ghost use Rattle.promql_syntax.specs.Postfixes.{IsPostfixOf, change_of, apply_change};
+ghost use Rattle.promql_syntax.specs.PartWords.{clause_value};
 
 use crate::grammar::build_error::{BuildError, BuildFault};
 use crate::grammar::parsed::{ParsedArgs, ParsedExpr, Pending};

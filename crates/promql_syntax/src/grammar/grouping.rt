@@ -10,7 +10,7 @@ ghost use Rattle.promql_kind.specs.Modifiers.{excluding, including};
 ghost use Rattle.promql_kind.specs.ModifierViews.{clause_of};
 ghost use Rattle.promql_syntax.specs.BuildErrors.{view_result};
 ghost use Rattle.promql_syntax.specs.ParsesPart.{ParsesPart};
-ghost use Rattle.promql_syntax.specs.PartBuilding.{clause_value};
+ghost use Rattle.promql_syntax.specs.PartWords.{clause_value};
 
 use crate::grammar::build_error::BuildError;
 use crate::grammar::labels::parse_labels;

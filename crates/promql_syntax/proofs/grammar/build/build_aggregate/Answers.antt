@@ -10,18 +10,18 @@ use Rattle.promql_syntax.specs.ParsesExpr.{IsExprOf, AreArgsOf}
 use Rattle.promql_syntax.specs.BuildErrors.{view_result}
 use Rattle.promql_syntax.specs.Asking.{known, ◌giving◌}
 use Rattle.promql_syntax.specs.Building.{build_all, from_checked_verdict}
-use Rattle.promql_syntax.specs.PartBuilding.{clause_value}
 use Rattle.promql_syntax.proofs.building.Ending.{then_value, then_fault}
 use Rattle.promql_syntax.proofs.building.BuiltForms.{if_ok_both, is_expr_of, with_trees, with_no_trees, gives_or_memory, aggregate_ends, clause_fails}
-use Rattle.promql_syntax.specs.FaultTokens.{here, subexpressions_of}
+use Rattle.promql_syntax.specs.FaultTokens.{subexpressions_of}
 use Rattle.promql_syntax.proofs.answer.FaultPlacing.{parts_built, passed_on, whole_placed}
 use Rattle.promql_syntax.proofs.grammar.build.build_aggregate.Goals as goal
+use Rattle.promql_syntax.specs.PartWords.{clause_value}
 
 pub returns-in-Err-clause-built : goal.returns-in-Err-clause-built
 returns-in-Err-clause-built c = λ builds n k text cl ds clause args.
     is_expr_of builds n k _ (grammar.aggregate c.args.op text cl ds) _ _ c.parsed_error.ensures.value c.parsed_error.ensures.tall (let same = args.tall in omega arith)
     (λ on. then_fault (build_all ds) (λ ts. known (clause_value cl) giving λ m. from_checked_verdict (aggregate_args c.args.op m ts)) _ (with_no_trees c.args.args (build_all ds) c.in-Err.error c.in-Err.is (args.built on)))
-    (λ on built fits. passed_on n (subexpressions_of (1 + (length (yield_after cl) + k)) ds) (here k (grammar.aggregate c.args.op text cl ds) ∷ []) _ _ c.in-Err.error c.in-Err.is c.parsed_error.ensures.is (args.placed on fits))
+    (λ on built fits. passed_on n (subexpressions_of (1 + (length (yield_after cl) + k)) ds) ((k, (grammar.aggregate c.args.op text cl ds)) ∷ []) _ _ c.in-Err.error c.in-Err.is c.parsed_error.ensures.is (args.placed on fits))
 
 pub returns-in-Ok-clause-clause-built : goal.returns-in-Ok-clause-clause-built
 returns-in-Ok-clause-clause-built c =

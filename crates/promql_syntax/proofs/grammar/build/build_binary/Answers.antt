@@ -1,4 +1,4 @@
-use Rattle.std.proofs.Common.{◌≡◌, ◌++◌, subst, sym, Bool, ◌&&◌, refl, ◌∙◌, ap, arith, append_assoc, None, List, [], ◌∷◌, ℕ}
+use Rattle.std.proofs.Common.{◌≡◌, ◌++◌, subst, sym, Bool, ◌&&◌, refl, ◌∙◌, ap, arith, append_assoc, None, List, [], ◌∷◌, ℕ, Some}
 use Rattle.std.proofs.lemmas.List.Elements.{All-append}
 use Rattle.std.specs.Prelude.{is_ok}
 use Rattle.promql_ast.specs.Checked.{check_tree}
@@ -13,7 +13,7 @@ use Rattle.promql_syntax.specs.PartBuilding.{modifier_value}
 use Rattle.promql_syntax.proofs.building.Ending.{then_value, then_fault}
 use Rattle.promql_syntax.proofs.building.BuiltForms.{goes_on, is_expr_of, with_tree, with_fault, binary_ends}
 use Rattle.promql_syntax.specs.BuildErrors.{build_error_of}
-use Rattle.promql_syntax.specs.FaultTokens.{Builds, here, subexpressions}
+use Rattle.promql_syntax.specs.FaultTokens.{Builds, subexpressions}
 use Rattle.promql_syntax.specs.Placing.{HasModifierPlace, IsModifierAt, left_after}
 use Rattle.promql_syntax.proofs.answer.FaultPlacing.{own_placed, parts_built, passed_on, second_placed}
 use Rattle.promql_syntax.proofs.answer.OwnFaults.{if_ok_all, modified_tokens, modifier_tokens, of_error}
@@ -23,15 +23,15 @@ pub returns-in-Err-clause-built : goal.returns-in-Err-clause-built
 returns-in-Err-clause-built c = λ builds n k text m l r there modifier left right.
     is_expr_of builds n k _ (grammar.binary c.args.op text m l r) _ _ c.parsed_error.ensures.value c.parsed_error.ensures.tall (let one = left.tall in let other = right.tall in let high = c.max-height.ensures in omega arith)
     (λ on. then_fault (build l) (λ x. build r giving λ y. known (modifier_value m) giving λ z. from_verdict (check_tree (tree.binary c.args.op x y z))) _ (with_fault c.args.left (build l) c.in-Err.error c.in-Err.is (left.built on)))
-    (λ on built fits. subst (λ subs. IsPlaced n subs c.parsed_error.result.value) (sym (append_assoc (subexpressions (left_after k m r) l) (subexpressions k r) (here k (grammar.binary c.args.op text m l r) ∷ [])))
-    (passed_on n (subexpressions (left_after k m r) l) ((subexpressions k r) ++ here k (grammar.binary c.args.op text m l r) ∷ []) _ _ c.in-Err.error c.in-Err.is c.parsed_error.ensures.is (left.placed on fits)))
+    (λ on built fits. subst (λ subs. IsPlaced n subs c.parsed_error.result.value) (sym (append_assoc (subexpressions (left_after k m r) l) (subexpressions k r) ((k, (grammar.binary c.args.op text m l r)) ∷ [])))
+    (passed_on n (subexpressions (left_after k m r) l) ((subexpressions k r) ++ (k, (grammar.binary c.args.op text m l r)) ∷ []) _ _ c.in-Err.error c.in-Err.is c.parsed_error.ensures.is (left.placed on fits)))
 
 pub returns-in-Err-right-clause-built : goal.returns-in-Err-right-clause-built
 returns-in-Err-right-clause-built c = λ builds n k text m l r there modifier left right.
     is_expr_of builds n k _ (grammar.binary c.args.op text m l r) _ _ c.parsed_error-in-Err-right.ensures.value c.parsed_error-in-Err-right.ensures.tall (let one = left.tall in let other = right.tall in let high = c.max-height.ensures in omega arith)
     (λ on. then_value (build l) (λ x. build r giving λ y. known (modifier_value m) giving λ z. from_verdict (check_tree (tree.binary c.args.op x y z))) (tree_of c.in-Ok.expr.value) _ (with_tree c.args.left (build l) c.in-Ok.expr c.in-Ok.is (left.built on))
     (then_fault (build r) (λ y. known (modifier_value m) giving λ z. from_verdict (check_tree (tree.binary c.args.op (tree_of c.in-Ok.expr.value) y z))) _ (with_fault c.args.right (build r) c.in-Err-right.error c.in-Err-right.is (right.built (goes_on builds _ _ c.in-Ok.is on)))))
-    (λ on built fits. passed_on n ((subexpressions (left_after k m r) l) ++ (subexpressions k r)) (here k (grammar.binary c.args.op text m l r) ∷ []) _ _ c.in-Err-right.error c.in-Err-right.is c.parsed_error-in-Err-right.ensures.is
+    (λ on built fits. passed_on n ((subexpressions (left_after k m r) l) ++ (subexpressions k r)) ((k, (grammar.binary c.args.op text m l r)) ∷ []) _ _ c.in-Err-right.error c.in-Err-right.is c.parsed_error-in-Err-right.ensures.is
     (second_placed n (subexpressions (left_after k m r) l) (subexpressions k r) c.args.right.value (parts_built n (subexpressions (left_after k m r) l) c.args.left.value c.in-Ok.expr c.in-Ok.is (left.placed on fits)) (right.placed (goes_on builds _ _ c.in-Ok.is on) fits)))
 
 pub returns-in_ok-expr-in-None-clause-built : goal.returns-in_ok-expr-in-None-clause-built

@@ -1,25 +1,26 @@
-use Rattle.std.proofs.Common.{ℕ, ◌+◌, Bool, ◌∙◌, ap, arith, [], ◌∷◌}
+use Rattle.std.proofs.Common.{ℕ, ◌+◌, Bool, ◌∙◌, ap, arith, [], ◌∷◌, Some, None}
 use Rattle.std.specs.Prelude.{Err}
 use Rattle.promql_ast.specs.View.{tree_of, trees_of}
 use Rattle.promql_grammar.specs.Grammar as grammar
 use Rattle.promql_grammar.specs.declared.token_kinds.TokenKind.{TokenKind}
 use Rattle.promql_syntax.specs.ParsesExpr.{IsExprOf, AreArgsOf}
 use Rattle.promql_kind.specs.Functions.{function_named}
-use Rattle.promql_syntax.specs.Building.{build_all, build_call}
+use Rattle.promql_syntax.specs.Building.{build_all}
 use Rattle.promql_syntax.proofs.building.Ending.{then_value, then_fault}
 use Rattle.promql_syntax.proofs.building.BuiltForms.{is_expr_of, with_trees, with_no_trees, call_ends, unknown_ends}
 use Rattle.promql_syntax.specs.BuildErrors.{build_error_of}
-use Rattle.promql_syntax.specs.FaultTokens.{here, subexpressions_of}
+use Rattle.promql_syntax.specs.FaultTokens.{subexpressions_of}
 use Rattle.promql_syntax.specs.Placing.{IsCallAt}
 use Rattle.promql_syntax.proofs.answer.FaultPlacing.{no_tokens, own_placed, parts_built, passed_on}
 use Rattle.promql_syntax.proofs.answer.OwnFaults.{error_placed, if_ok_all, name_tokens, none_checked, of_error}
 use Rattle.promql_syntax.proofs.grammar.build.build_call.Goals as goal
+use Rattle.promql_syntax.specs.PartWords.{build_call}
 
 pub returns-in-Err-clause-built : goal.returns-in-Err-clause-built
 returns-in-Err-clause-built c = λ builds n k kind ds there args.
     is_expr_of builds n k _ (grammar.call kind c.args.name.now ds) _ _ c.parsed_error.ensures.value c.parsed_error.ensures.tall (let same = args.tall in omega arith)
     (λ on. then_fault (build_all ds) (λ ts. build_call c.args.name.now (function_named c.args.name.now) ts) _ (with_no_trees c.args.args (build_all ds) c.in-Err.error c.in-Err.is (args.built on)))
-    (λ on built fits. passed_on n (subexpressions_of (1 + k) ds) (here k (grammar.call kind c.args.name.now ds) ∷ []) _ _ c.in-Err.error c.in-Err.is c.parsed_error.ensures.is (args.placed on fits))
+    (λ on built fits. passed_on n (subexpressions_of (1 + k) ds) ((k, (grammar.call kind c.args.name.now ds)) ∷ []) _ _ c.in-Err.error c.in-Err.is c.parsed_error.ensures.is (args.placed on fits))
 
 pub returns-in_ok-expr-in-Some-clause-built : goal.returns-in_ok-expr-in-Some-clause-built
 returns-in_ok-expr-in-Some-clause-built c =

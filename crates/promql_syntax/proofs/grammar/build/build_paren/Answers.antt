@@ -7,7 +7,7 @@ use Rattle.promql_syntax.specs.Asking.{gives}
 use Rattle.promql_syntax.specs.Building.{build}
 use Rattle.promql_syntax.proofs.building.Ending.{then_value, then_fault}
 use Rattle.promql_syntax.proofs.building.BuiltForms.{is_expr_of, with_tree, with_fault, ends_given}
-use Rattle.promql_syntax.specs.FaultTokens.{here, subexpressions}
+use Rattle.promql_syntax.specs.FaultTokens.{subexpressions}
 use Rattle.promql_syntax.proofs.answer.FaultPlacing.{parts_built, passed_on, whole_placed}
 use Rattle.promql_syntax.proofs.grammar.build.build_paren.Goals as goal
 
@@ -22,4 +22,4 @@ pub returns-in-Err-clause-built : goal.returns-in-Err-clause-built
 returns-in-Err-clause-built c = λ builds n k d inner.
     is_expr_of builds n k _ (grammar.paren d) _ _ c.parsed_error.ensures.value c.parsed_error.ensures.tall (let same = inner.tall in omega arith)
     (λ on. then_fault (build d) (λ t. gives (tree.paren t)) _ (with_fault c.args.inner (build d) c.in-Err.error c.in-Err.is (inner.built on)))
-    (λ on built fits. passed_on n (subexpressions (1 + k) d) (here k (grammar.paren d) ∷ []) _ _ c.in-Err.error c.in-Err.is c.parsed_error.ensures.is (inner.placed on fits))
+    (λ on built fits. passed_on n (subexpressions (1 + k) d) ((k, (grammar.paren d)) ∷ []) _ _ c.in-Err.error c.in-Err.is c.parsed_error.ensures.is (inner.placed on fits))

@@ -8,7 +8,7 @@ use Rattle.promql_syntax.specs.Postfixes.{IsPostfixOf}
 use Rattle.promql_syntax.specs.Building.{build, build_postfix}
 use Rattle.promql_syntax.proofs.building.Ending.{then_value, then_fault}
 use Rattle.promql_syntax.proofs.building.BuiltForms.{is_expr_of, with_tree, with_fault, postfix_ends}
-use Rattle.promql_syntax.specs.FaultTokens.{here, subexpressions}
+use Rattle.promql_syntax.specs.FaultTokens.{subexpressions}
 use Rattle.promql_syntax.specs.Placing.{IsPostfixAt}
 use Rattle.promql_syntax.proofs.answer.FaultPlacing.{own_placed, parts_built, passed_on}
 use Rattle.promql_syntax.proofs.answer.OwnFaults.{if_ok_all, of_error, postfixed_tokens}
@@ -26,4 +26,4 @@ pub returns-in-Err-clause-built : goal.returns-in-Err-clause-built
 returns-in-Err-clause-built c = λ builds n k d p there base held.
     is_expr_of builds n k _ (grammar.postfixed d p) _ _ c.parsed_error.ensures.value c.parsed_error.ensures.tall (let same = base.tall in let adds = held.adds in omega arith)
     (λ on. then_fault (build d) (λ t. build_postfix t p) _ (with_fault c.args.base (build d) c.in-Err.error c.in-Err.is (base.built on)))
-    (λ on built fits. passed_on n (subexpressions (length (yield_postfix p) + k) d) (here k (grammar.postfixed d p) ∷ []) _ _ c.in-Err.error c.in-Err.is c.parsed_error.ensures.is (base.placed on fits))
+    (λ on built fits. passed_on n (subexpressions (length (yield_postfix p) + k) d) ((k, (grammar.postfixed d p)) ∷ []) _ _ c.in-Err.error c.in-Err.is c.parsed_error.ensures.is (base.placed on fits))

@@ -4,13 +4,14 @@ use Rattle.promql_token.specs.declared.ids.TheConstants.{T_SUB}
 use Rattle.promql_ast.specs.View.{tree_of}
 use Rattle.promql_grammar.specs.Grammar as grammar
 use Rattle.promql_syntax.specs.ParsesExpr.{IsExprOf}
-use Rattle.promql_syntax.specs.Building.{build, build_unary}
+use Rattle.promql_syntax.specs.Building.{build}
 use Rattle.promql_syntax.proofs.building.Ending.{then_value, then_fault}
 use Rattle.promql_syntax.proofs.building.BuiltForms.{if_ok_both, is_expr_of, with_tree, with_fault, plus_ends, minus_ends}
 use Rattle.std.proofs.lemmas.Bool.Decides.{nat_tests}
-use Rattle.promql_syntax.specs.FaultTokens.{here, subexpressions}
+use Rattle.promql_syntax.specs.FaultTokens.{subexpressions}
 use Rattle.promql_syntax.proofs.answer.FaultPlacing.{parts_built, passed_on, whole_placed}
 use Rattle.promql_syntax.proofs.grammar.build.build_unary.Goals as goal
+use Rattle.promql_syntax.specs.PartWords.{build_unary}
 
 pub returns-then-op-ne-T_SUB-clause-built : goal.returns-then-op-ne-T_SUB-clause-built
 returns-then-op-ne-T_SUB-clause-built c = λ builds n k text d operand.
@@ -31,4 +32,4 @@ pub returns-in-Err-clause-built : goal.returns-in-Err-clause-built
 returns-in-Err-clause-built c = λ builds n k text d operand.
     is_expr_of builds n k _ (grammar.unary c.args.op text d) _ _ c.parsed_error.ensures.value c.parsed_error.ensures.tall (let same = operand.tall in omega arith)
     (λ on. then_fault (build d) (λ t. build_unary c.args.op t) _ (with_fault c.args.operand (build d) c.in-Err.error c.in-Err.is (operand.built on)))
-    (λ on built fits. passed_on n (subexpressions k d) (here k (grammar.unary c.args.op text d) ∷ []) _ _ c.in-Err.error c.in-Err.is c.parsed_error.ensures.is (operand.placed on fits))
+    (λ on built fits. passed_on n (subexpressions k d) ((k, (grammar.unary c.args.op text d)) ∷ []) _ _ c.in-Err.error c.in-Err.is c.parsed_error.ensures.is (operand.placed on fits))

@@ -13,7 +13,7 @@ use Rattle.promql_syntax.proofs.grammar.modifier.parse_fill_value.Goals as goal
 
 -- a number with its sign, in parentheses
 value_read : (ts us vs rest : List Symbol) (p : Signed × Text) → ts ≡ punct kind.LeftParen ∷ us → parse_signed_number us ≡ Ok (p, vs) → vs ≡ punct kind.RightParen ∷ rest
-    → parse_fill_value ts ≡ Ok (record { sign = p.0; number = p.1 }, rest)
+    → parse_fill_value ts ≡ Ok ((p.0, p.1), rest)
 value_read ts us vs rest p opens reads closes =
     ap parse_fill_value opens ∙ number_then (eat_sign us) (λ s n rest. parse_fill_value_end s n rest)
     ∙ ap (λ o. o then λ x. parse_fill_value_end x.0.0 x.0.1 x.1) reads ∙ ap (parse_fill_value_end p.0 p.1) closes
@@ -36,7 +36,7 @@ pub returns-clause-gives : goal.returns-clause-gives
 returns-clause-gives c =
     let number = c.in_ok-number.ensures.gives in
     record {
-      part = record { sign = number.part.0; number = number.part.1 };
+      part = (number.part.0, number.part.1);
       is = value_read _ _ _ _ number.part c.in_ok-expect.ensures.gives.first number.is c.in_ok-expect-2.ensures.gives.first;
       built = number.built;
     }
