@@ -16,8 +16,9 @@ use Rattle.promql_label.specs.Operators.{is_pattern_id}
 use Rattle.promql_ast.specs.Shifts.{Moment, at_start, at_end, at_time}
 use Rattle.promql_ast.specs.Tree.{Tree}
 use Rattle.promql_json.proofs.ReadForms.{type_found}
-use Rattle.promql_json.specs.Json.{json_value, type_name}
-use Rattle.promql_json.specs.JsonParts.{start_or_end, timestamp, token_json, whole}
+use Rattle.promql_json.specs.Json.{json_value}
+use Rattle.promql_json.specs.FormNames.{token_json, type_name}
+use Rattle.promql_json.specs.JsonParts.{start_or_end, timestamp, whole}
 use Rattle.promql_json.specs.MembersLeft.{IsIn, IsTypeIn, IsTyped}
 use Rattle.promql_json.specs.Readable.{ReadableMoment}
 use Rattle.promql_json.specs.declared.from_error.Expected.{Expected}

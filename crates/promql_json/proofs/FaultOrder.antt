@@ -5,7 +5,8 @@ use Rattle.serde_json.specs.Data.{Members, object}
 use Rattle.promql_ast.specs.Fold.{maybe_within, all_within}
 use Rattle.promql_ast.specs.Tree.{Tree, aggregate, unary, binary, paren, subquery, number, string, vector, matrix, call, extension, MaybeTree, absent, present, Trees, no_trees, first_tree}
 use Rattle.promql_json.specs.declared.error.JsonError.{JsonError}
-use Rattle.promql_json.specs.Json.{own_fault, first_fault, unless, node_members, node_json, args_json}
+use Rattle.promql_json.specs.Json.{own_fault, first_fault, node_json, args_json}
+use Rattle.promql_json.specs.FormNames.{node_members, unless}
 use Rattle.promql_json.specs.JsonFaults.{json_fault, param_fault, args_fault, args_members}
 
 or_none : (a : Option JsonError) → a ≡ option_or a None

@@ -5,7 +5,8 @@ use Rattle.serde_json.specs.Data.{Data}
 use Rattle.promql_ast.specs.Fold.{within, maybe_within, all_within}
 use Rattle.promql_ast.specs.Tree.{Tree, aggregate, unary, binary, paren, subquery, number, string, vector, matrix, call, extension, MaybeTree, absent, present, Trees, no_trees, first_tree}
 use Rattle.promql_json.specs.declared.error.JsonError.{JsonError}
-use Rattle.promql_json.specs.Json.{AtEachNode, own_fault, first_fault, unless, json, json_value}
+use Rattle.promql_json.specs.Json.{AtEachNode, own_fault, first_fault, json, json_value}
+use Rattle.promql_json.specs.FormNames.{unless}
 
 abbrev Fits : Tree → Type 0
 Fits t = own_fault t ≡ None

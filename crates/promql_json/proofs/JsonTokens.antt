@@ -19,7 +19,8 @@ use Rattle.promql_ast.specs.Tree.{Tree, aggregate, unary, binary, paren, subquer
 use Rattle.promql_ast.specs.declared.range_mode.RangeMode.{RangeMode}
 use Rattle.promql_ast.specs.declared.range_mode.RangeMode.TheVariants.{Plain, Smoothed, Anchored}
 use Rattle.promql_json.specs.declared.error.JsonError.{JsonError}
-use Rattle.promql_json.specs.Json.{args_items, json, json_value, param_json, unless}
+use Rattle.promql_json.specs.Json.{args_items, json, json_value, param_json}
+use Rattle.promql_json.specs.FormNames.{unless}
 use Rattle.promql_json.specs.JsonFaults.{json_fault}
 use Rattle.promql_json.specs.JsonParts.{group_json, millis, or_null, shift_millis, start_or_end, timestamp, whole}
 use Rattle.promql_json.specs.JsonTokens.{end_of, groups_member, member, mode_member, tokens, tree_tokens, param_tokens, rest_of_args}

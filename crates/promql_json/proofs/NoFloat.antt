@@ -18,6 +18,7 @@ use Rattle.promql_ast.specs.declared.range_mode.RangeMode.{RangeMode}
 use Rattle.promql_ast.specs.declared.range_mode.RangeMode.TheVariants.{Plain, Smoothed, Anchored}
 use Rattle.promql_json.specs.declared.error.JsonError.{JsonError}
 use Rattle.promql_json.specs.JsonParts as part
+use Rattle.promql_json.specs.FormNames.{node_members, optional_labels, type_json, unless}
 use Rattle.promql_json.specs.Json as spec
 
 no_float_ordering : (o : Ordering) (a b c : Members) → members_have_float a ≡ false → members_have_float b ≡ false → members_have_float c ≡ false → members_have_float (match_ordering o a b c) ≡ false
@@ -74,7 +75,7 @@ no_float_fills (fills rhs lhs) = or_from _ _ (no_float_or_null part.number_json 
 
 no_float_matching : (m : Matching) → has_float (part.matching_json m) ≡ false
 no_float_matching (matching card clause return_bool values) =
-    or_from _ _ (no_float_cardinality card) (or_from _ _ (no_float_fills values) (or_from _ _ (no_float_labels (part.optional_labels clause)) refl))
+    or_from _ _ (no_float_cardinality card) (or_from _ _ (no_float_fills values) (or_from _ _ (no_float_labels (optional_labels clause)) refl))
 
 no_float_start_or_end : (m : Option Moment) → has_float (part.start_or_end m) ≡ false
 no_float_start_or_end None = refl
@@ -90,20 +91,20 @@ no_float_timestamp (Some (at_time z)) = no_float_integer z
 
 no_float_function : (f : Signature) → has_float (part.function_json f) ≡ false
 no_float_function (signature name args variadic gives experimental) =
-    or_from _ _ (no_float_list part.type_json (λ _. refl) args) (or_from _ _ (no_float_integer variadic) refl)
+    or_from _ _ (no_float_list type_json (λ _. refl) args) (or_from _ _ (no_float_integer variadic) refl)
 
 no_float_selector : (s : Selector) → members_have_float (spec.selector_members s) ≡ false
 no_float_selector (selector name (plain_matchers plain groups) offset at) =
     no_float_groups groups _ (or_from _ _ (no_float_group plain) (or_from _ _ (no_float_or_null text (λ _. refl) name)
     (or_from _ _ (no_float_integer (part.shift_millis offset)) (or_from _ _ (no_float_start_or_end at) (or_from _ _ (no_float_timestamp at) refl)))))
 
-no_float_typed : (t : Tree) → members_have_float (spec.node_members t) ≡ false → has_float (spec.json_value t) ≡ false
-no_float_typed t h = no_float_put (codes "type") _ (spec.node_members t) refl h
+no_float_typed : (t : Tree) → members_have_float (node_members t) ≡ false → has_float (spec.json_value t) ≡ false
+no_float_typed t h = no_float_put (codes "type") _ (node_members t) refl h
 
 mutual
-  no_float_node : (t : Tree) → members_have_float (spec.node_members t) ≡ false
+  no_float_node : (t : Tree) → members_have_float (node_members t) ≡ false
   no_float_node (aggregate op e p m) =
-      or_from _ _ (no_float_typed e (no_float_node e)) (or_from (has_float (part.labels_json (part.optional_labels m))) _ (no_float_labels (part.optional_labels m)) (or_from (has_float (spec.param_json p)) false (no_float_param p) refl))
+      or_from _ _ (no_float_typed e (no_float_node e)) (or_from (has_float (part.labels_json (optional_labels m))) _ (no_float_labels (optional_labels m)) (or_from (has_float (spec.param_json p)) false (no_float_param p) refl))
   no_float_node (unary e) = or_from _ _ (no_float_typed e (no_float_node e)) refl
   no_float_node (binary op l r m) =
       or_from _ _ (no_float_typed l (no_float_node l)) (or_from _ _ (no_float_or_null part.matching_json no_float_matching m) (or_from _ _ (no_float_typed r (no_float_node r)) refl))
@@ -126,7 +127,7 @@ mutual
   no_float_args no_trees = refl
   no_float_args (first_tree e es) = or_from (has_float (spec.json_value e)) _ (no_float_typed e (no_float_node e)) (no_float_args es)
 
-form_value : (f : Option JsonError) (d e : Data) → spec.unless f d ≡ Ok e → e ≡ d
+form_value : (f : Option JsonError) (d e : Data) → unless f d ≡ Ok e → e ≡ d
 form_value None d e is = cc
 form_value (Some x) d e is = absurd cc
 

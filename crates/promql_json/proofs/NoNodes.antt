@@ -14,7 +14,8 @@ use Rattle.promql_ast.specs.Selectors.{Selector}
 use Rattle.promql_ast.specs.Shifts.{Moment, Shift}
 use Rattle.promql_ast.specs.Tree.{Tree, aggregate, unary, binary, paren, subquery, number, string, vector, matrix, call, extension, MaybeTree, Trees}
 use Rattle.promql_ast.specs.declared.range_mode.RangeMode.{RangeMode}
-use Rattle.promql_json.specs.Json.{json_value, type_name}
+use Rattle.promql_json.specs.Json.{json_value}
+use Rattle.promql_json.specs.FormNames.{type_name}
 use Rattle.promql_json.specs.Readable.{ReadableMoment}
 use Rattle.promql_json.specs.ReadableBelow.{AllReadableBelow, MaybeReadableBelow, ReadableBelow, ReadableMatching, ReadableSelector}
 use Rattle.promql_json.specs.declared.read_values.TheConstants.{AGGREGATORS, OPERATORS}

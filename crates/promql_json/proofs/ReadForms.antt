@@ -26,9 +26,10 @@ use Rattle.promql_ast.specs.declared.expr.Expr.{Expr}
 use Rattle.promql_ast.specs.declared.range_mode.RangeMode.{RangeMode}
 use Rattle.promql_ast.specs.declared.range_mode.RangeMode.TheVariants.{Plain, Smoothed, Anchored}
 use Rattle.promql_json.specs.FormMembers.{begin_members, end_members, function_members, groups_members, mode_members, modifier_members}
-use Rattle.promql_json.specs.Json.{args_items, first_fault, json, json_value, node_members, type_name, unless}
+use Rattle.promql_json.specs.Json.{args_items, first_fault, json, json_value}
+use Rattle.promql_json.specs.FormNames.{node_members, optional_labels, type_json, type_name, unless}
 use Rattle.promql_json.specs.JsonFaults.{args_fault, json_fault}
-use Rattle.promql_json.specs.JsonParts.{cardinality_json, fills_json, function_json, group_json, labels_json, list, matching_json, millis, optional_labels, type_json, whole}
+use Rattle.promql_json.specs.JsonParts.{cardinality_json, fills_json, function_json, group_json, labels_json, list, matching_json, millis, whole}
 use Rattle.promql_json.specs.JsonTokens.{moment_of_selector}
 use Rattle.promql_json.specs.Readable.{ReadableMatcher, ReadableMoment}
 use Rattle.promql_json.specs.ReadableBelow.{ReadableFill, ReadableMatching, ReadableSelector}

@@ -9,13 +9,13 @@ use Rattle.serde_json.specs.Find.{at, get, get_member}
 use Rattle.promql_text.specs.Texts.{Text}
 use Rattle.promql_text.specs.Values.{IsNumber}
 use Rattle.promql_text.specs.declared.number.Number.{Number}
-use Rattle.promql_token.specs.Ids.{is_aggregator}
+use Rattle.promql_token.specs.Ids.{is_aggregator, text_of}
 use Rattle.promql_label.specs.Answers.{Allows, rejected}
-use Rattle.promql_label.specs.PlainMatchers.{Operator}
+use Rattle.promql_label.specs.PlainMatchers.{Operator, operator_text}
 use Rattle.promql_kind.specs.Functions.{Signature, function_named, name_of}
 use Rattle.promql_kind.specs.Modifiers.{Cardinality}
 use Rattle.promql_ast.specs.Shifts.{Moment}
-use Rattle.promql_json.specs.JsonParts.{cardinality_json, function_json, millis, number_json, operator_json, start_or_end, token_json, whole}
+use Rattle.promql_json.specs.JsonParts.{cardinality_json, function_json, millis, number_json, start_or_end, whole}
 use Rattle.promql_json.specs.Readable.{is_binary_operator}
 use Rattle.promql_json.specs.declared.from_error.Expected.{Expected}
 use Rattle.promql_json.specs.declared.from_error.Expected.TheVariants as kind
@@ -115,10 +115,10 @@ IsNot kind.Flag d = (b : Bool) → d ≢ boolean b
 IsNot kind.Length d = (n : ℕ) → d ≢ whole (millis n)
 IsNot kind.Millis d = (z : ℤ) → FitsSigned w64 z → d ≢ whole z
 IsNot kind.Number d = (n : Number) → IsNumber n → d ≢ number_json n
-IsNot kind.Aggregator d = (op : ℕ) → is_aggregator op ≡ true → d ≢ token_json op
-IsNot kind.Operator d = (op : ℕ) → is_binary_operator op ≡ true → d ≢ token_json op
+IsNot kind.Aggregator d = (op : ℕ) → is_aggregator op ≡ true → d ≢ string (text_of op)
+IsNot kind.Operator d = (op : ℕ) → is_binary_operator op ≡ true → d ≢ string (text_of op)
 IsNot kind.Minus d = d ≢ string (codes "-")
-IsNot kind.MatchOp d = (op : Operator) → d ≢ operator_json op
+IsNot kind.MatchOp d = (op : Operator) → d ≢ string (operator_text op)
 IsNot kind.Pattern d = (s : Text) × (d ≡ string s) × Allows s rejected
 IsNot kind.StartOrEnd d = (at : Option Moment) → d ≢ start_or_end at
 IsNot kind.NoTimestamp d = d ≢ null

@@ -1,5 +1,5 @@
 -- The JSON form of what nodes hold beside their parts (docs/reference/json.md, "Parts").
-use Rattle.std.specs.Prelude.{ℕ, ◌/◌, ℤ, pos, neg_ℤ, List, [], ◌∷◌, map, Bool, false, not, Option, Some, None, codes}
+use Rattle.std.specs.Prelude.{ℕ, ◌/◌, ℤ, pos, neg_ℤ, List, [], ◌∷◌, map, Option, Some, None, codes}
 use Rattle.std.specs.Option.{option_map_or}
 use Rattle.serde_json.specs.Data.{Data, null, boolean, number, string, array, object, Members, no_members, put}
 use Rattle.serde_json.specs.Find.{of_integer}
@@ -7,12 +7,10 @@ use Rattle.serde_json.specs.View.{items_of}
 use Rattle.promql_text.specs.NumberText.{number_text}
 use Rattle.promql_text.specs.Texts.{Text}
 use Rattle.promql_text.specs.declared.number.Number.{Number}
-use Rattle.promql_token.specs.Ids.{text_of}
-use Rattle.promql_label.specs.PlainMatchers.{Operator, PlainMatcher, plain_matcher, PlainMatchers, plain_matchers, operator_text}
+use Rattle.promql_label.specs.PlainMatchers.{PlainMatcher, plain_matcher, PlainMatchers, plain_matchers, operator_text}
 use Rattle.promql_kind.specs.Functions.{Signature, signature}
-use Rattle.promql_kind.specs.Modifiers.{Clause, clause_labels, is_including, is_on, Cardinality, one_to_one, many_to_one, one_to_many, many_to_many, Fills, fills, Matching, matching}
+use Rattle.promql_kind.specs.Modifiers.{clause_labels, is_including_some, Cardinality, one_to_one, many_to_one, one_to_many, many_to_many, Fills, fills, Matching, matching}
 use Rattle.promql_kind.specs.ValueTypes.{type_text}
-use Rattle.promql_kind.specs.declared.value.ValueType.{ValueType}
 use Rattle.promql_ast.specs.Shifts.{Shift, back, ahead, Moment, at_start, at_end, at_time}
 use Rattle.promql_ast.specs.declared.range_mode.RangeMode.{RangeMode}
 use Rattle.promql_ast.specs.declared.range_mode.RangeMode.TheVariants.{Plain, Smoothed, Anchored}
@@ -41,12 +39,9 @@ number_json n = string (number_text n)
 abbrev pub labels_json : List Text → Data
 labels_json ls = list (map string ls)
 
-abbrev pub operator_json : Operator → Data
-operator_json op = string (operator_text op)
-
 abbrev pub matcher_json : PlainMatcher → Data
 matcher_json (plain_matcher op name value) =
-    object (members ((codes "type", operator_json op) ∷ (codes "name", string name) ∷ (codes "value", string value) ∷ []))
+    object (members ((codes "type", string (operator_text op)) ∷ (codes "name", string name) ∷ (codes "value", string value) ∷ []))
 
 abbrev pub group_json : List PlainMatcher → Data
 group_json ms = list (map matcher_json ms)
@@ -62,12 +57,6 @@ matchers_json (plain_matchers plain groups) = object (with_groups groups (member
 
 -- ---- "Modifiers"
 
-abbrev pub optional_labels : Option Clause → List Text
-optional_labels m = option_map_or clause_labels m []
-
-abbrev pub is_excluding : Option Clause → Bool
-is_excluding m = option_map_or (λ c. not (is_including c)) m false
-
 abbrev pub cardinality_json : Cardinality → Data
 cardinality_json one_to_one = string (codes "one-to-one")
 cardinality_json (many_to_one ls) = object (members ((codes "many-to-one", labels_json ls) ∷ []))
@@ -81,8 +70,8 @@ abbrev pub matching_json : Matching → Data
 matching_json (matching card clause return_bool values) = object (members (
     (codes "card", cardinality_json card)
     ∷ (codes "include", list [])
-    ∷ (codes "labels", labels_json (optional_labels clause))
-    ∷ (codes "on", boolean (is_on (matching card clause return_bool values)))
+    ∷ (codes "labels", labels_json (option_map_or clause_labels clause []))
+    ∷ (codes "on", boolean (is_including_some clause))
     ∷ (codes "fillValues", fills_json values) ∷ []))
 
 -- ---- "Offset and @", "Ranges"
@@ -112,18 +101,12 @@ with_mode Plain ms = ms
 with_mode Smoothed ms = put (codes "rangeMode") (string (codes "smoothed")) ms
 with_mode Anchored ms = put (codes "rangeMode") (string (codes "anchored")) ms
 
--- ---- "Functions" and "Types"
-
-abbrev pub type_json : ValueType → Data
-type_json t = string (type_text t)
-
-abbrev pub token_json : ℕ → Data
-token_json id = string (text_of id)
+-- ---- "Functions"
 
 abbrev pub function_json : Signature → Data
 function_json (signature name args variadic gives experimental) = object (members (
     (codes "name", string name)
-    ∷ (codes "argTypes", list (map type_json args))
+    ∷ (codes "argTypes", list (map (λ t. string (type_text t)) args))
     ∷ (codes "variadic", whole variadic)
-    ∷ (codes "returnType", type_json gives)
+    ∷ (codes "returnType", string (type_text gives))
     ∷ (codes "experimental", boolean experimental) ∷ []))

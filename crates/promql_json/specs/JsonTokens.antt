@@ -14,7 +14,8 @@ use Rattle.promql_ast.specs.Shifts.{Moment, Shift}
 use Rattle.promql_ast.specs.Tree.{Tree, aggregate, unary, binary, paren, subquery, number, string, vector, matrix, call, extension, MaybeTree, absent, present, Trees, no_trees, first_tree}
 use Rattle.promql_ast.specs.declared.range_mode.RangeMode.{RangeMode}
 use Rattle.promql_ast.specs.declared.range_mode.RangeMode.TheVariants.{Plain, Smoothed, Anchored}
-use Rattle.promql_json.specs.JsonParts.{list, or_null, whole, number_json, labels_json, group_json, optional_labels, is_excluding, matching_json, millis, shift_millis, start_or_end, timestamp, token_json, function_json}
+use Rattle.promql_json.specs.JsonParts.{list, or_null, whole, number_json, labels_json, group_json, matching_json, millis, shift_millis, start_or_end, timestamp, function_json}
+use Rattle.promql_json.specs.FormNames.{is_excluding, optional_labels, token_json}
 
 abbrev pub tokens : Data → List Token
 tokens d = json_tokens (outline d)

@@ -1,6 +1,7 @@
 pub mod Events
 pub mod FormMembers
 pub mod FormMisfits
+pub mod FormNames
 pub mod Json
 pub mod JsonFaults
 pub mod JsonParts

@@ -3,7 +3,8 @@
 ghost use Rattle.std.specs.Prelude.{◌≡◌, None, Some, IfErr, OnOk, option_map};
 ghost use Rattle.std.specs.Duration.{as_nanos};
 ghost use Rattle.promql_ast.specs.View.{aggregate_tree, binary_tree, matrix_tree, option_tree, selector_of, subquery_tree, tree_of, trees_of};
-ghost use Rattle.promql_json.specs.Json.{selector_fault, step_fault, width_fault};
+ghost use Rattle.promql_json.specs.Json.{width_fault};
+ghost use Rattle.promql_json.specs.FormNames.{selector_fault, step_fault};
 ghost use Rattle.promql_json.specs.JsonFaults.{args_fault, json_fault, param_fault};
 ghost use Rattle.promql_json.specs.JsonParts as spec;
 

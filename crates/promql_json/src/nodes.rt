@@ -10,8 +10,9 @@ ghost use Rattle.promql_ast.specs.Shifts.{moment_of, shift_of};
 ghost use Rattle.promql_ast.specs.Tree.{number, string};
 ghost use Rattle.promql_ast.specs.View.{aggregate_tree, binary_tree, call_tree, matrix_tree, option_tree, paren_tree, selector_of, subquery_tree, tree_of, trees_of, unary_tree, vector_tree};
 ghost use Rattle.promql_json.specs.Json as spec;
+ghost use Rattle.promql_json.specs.FormNames.{optional_labels, selector_fault, token_json};
 ghost use Rattle.promql_json.specs.JsonFaults.{args_fault, json_fault, param_fault};
-ghost use Rattle.promql_json.specs.JsonParts.{labels_json, optional_labels, token_json};
+ghost use Rattle.promql_json.specs.JsonParts.{labels_json};
 ghost use Rattle.promql_json.specs.JsonTokens.{begin_of, end_of_subquery, member, param_tokens, rest_of_args, tree_tokens};
 ghost use Rattle.promql_json.specs.declared.error.JsonError.TheVariants.{Memory};
 
@@ -73,7 +74,7 @@ fn write_string_literal(out: &mut JsonWriter, node: &StringLiteral) -> Result<()
 
 /// The keys of a selector up to `or_matchers`.
 fn begin_selector(out: &mut JsonWriter, node: &VectorSelector) -> Result<(), AllocError>
-    requires { spec.selector_fault (selector_of node.now) ≡ None }
+    requires { selector_fault (selector_of node.now) ≡ None }
     ensures { OnOk result (out.new ≡ out.old ++ begin_of (selector_of node.now)) }
 {
     out.begin_with("matchers")?;

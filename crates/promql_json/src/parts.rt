@@ -12,7 +12,8 @@ ghost use Rattle.promql_kind.specs.Modifiers.{is_on};
 ghost use Rattle.promql_kind.specs.ModifierViews.{cardinality_of, clause_of, fills_of, matching_of};
 ghost use Rattle.promql_kind.specs.ValueTypes.{type_text};
 ghost use Rattle.promql_ast.specs.Shifts.{moment_of, shift_of};
-ghost use Rattle.promql_json.specs.Json.{step_fault, width_fault};
+ghost use Rattle.promql_json.specs.Json.{width_fault};
+ghost use Rattle.promql_json.specs.FormNames.{is_excluding, optional_labels, step_fault, token_json, type_json};
 ghost use Rattle.promql_json.specs.JsonParts as spec;
 ghost use Rattle.promql_json.specs.JsonTokens.{groups_member, member, mode_member, moment_members, tokens};
 
@@ -30,7 +31,7 @@ use std::alloc::{AllocError, Global};
 use std::time::Duration;
 
 pub(crate) fn write_op(out: &mut JsonWriter, op: TokenType) -> Result<(), AllocError>
-    ensures { OnOk result (out.new ≡ out.old ++ member (codes "op") (spec.token_json op)) }
+    ensures { OnOk result (out.new ≡ out.old ++ member (codes "op") (token_json op)) }
 {
     out.string_member("op", token_display(op.id()))
 }
@@ -53,7 +54,7 @@ pub(crate) fn write_clause(
     clause: &Option<LabelModifier>,
 ) -> Result<(), AllocError>
     ensures { OnOk result (out.new ≡ out.old ++ member name.now
-        (spec.labels_json (spec.optional_labels (option_map clause_of clause.now)))) }
+        (spec.labels_json (optional_labels (option_map clause_of clause.now)))) }
 {
     out.key(name)?;
     match clause {
@@ -194,7 +195,7 @@ fn write_cardinality(out: &mut JsonWriter, card: &VectorMatchCardinality) -> Res
 /// The keys after `fillValues`, and the end.
 fn write_matched(out: &mut JsonWriter, modifier: &BinModifier) -> Result<(), AllocError>
     ensures { OnOk result (out.new ≡ out.old ++ (member (codes "include") (spec.list [])
-        ++ (member (codes "labels") (spec.labels_json (spec.optional_labels
+        ++ (member (codes "labels") (spec.labels_json (optional_labels
         (option_map clause_of modifier.now.matching)))
         ++ (member (codes "on") (boolean (is_on (matching_of modifier.now)))
         ++ token.end_object ∷ [])))) }
@@ -325,7 +326,7 @@ pub(crate) fn type_name(value_type: ValueType) -> &'static str
 
 fn write_types(out: &mut JsonWriter, types: &[ValueType]) -> Result<(), AllocError>
     ensures { OnOk result (out.new
-        ≡ out.old ++ tokens (spec.list (map spec.type_json types.now))) }
+        ≡ out.old ++ tokens (spec.list (map type_json types.now))) }
 {
     out.begin_array()?;
     for value_type in types {
@@ -362,7 +363,7 @@ pub(crate) fn end_aggregate(
     clause: &Option<LabelModifier>,
 ) -> Result<(), AllocError>
     ensures { OnOk result (out.new ≡ out.old ++ (member (codes "type") (text (codes "aggregation"))
-        ++ (member (codes "without") (boolean (spec.is_excluding (option_map clause_of clause.now)))
+        ++ (member (codes "without") (boolean (is_excluding (option_map clause_of clause.now)))
         ++ token.end_object ∷ []))) }
 {
     out.string_member("type", "aggregation")?;

@@ -12,6 +12,7 @@ ghost use Rattle.promql_label.specs.Operators.{is_operator_id};
 ghost use Rattle.promql_label.specs.PlainMatchers.{Operator, PlainMatcher};
 ghost use Rattle.promql_json.specs.FormMembers.{groups_members};
 ghost use Rattle.promql_json.specs.JsonParts as spec;
+ghost use Rattle.promql_json.specs.FormNames.{operator_json, token_json};
 ghost use Rattle.promql_json.specs.Readable.{ReadableMatcher};
 ghost use Rattle.promql_json.specs.FormMisfits.{IsNot, labels as labels_form, list_of, matcher, one};
 ghost use Rattle.promql_json.specs.MembersLeft.{IsIn};
@@ -65,9 +66,9 @@ fn read_label_list(alloc: Global, list: &[Value]) -> Result<Vec<String>, ReadErr
 
 /// The id of a matcher's operator.
 fn read_match_op(alloc: Global, value: &Value) -> Result<TokenId, ReadError>
-    ensures ok { IfOk result (λ id. view value.now ≡ spec.token_json id) }
+    ensures ok { IfOk result (λ id. view value.now ≡ token_json id) }
     ensures known { IfOk result (λ id. is_operator_id id ≡ true) }
-    ensures err { OnErr result ((op : Operator) → view value.now ≢ spec.operator_json op) }
+    ensures err { OnErr result ((op : Operator) → view value.now ≢ operator_json op) }
     ensures place { IfErr result (λ e. IsNot MatchOp (view value.now) → IsIn (one MatchOp) (view value.now) e) }
 {
     match value {
@@ -84,10 +85,10 @@ fn new_matcher(alloc: Global, id: TokenId, name: &str, value: &str) -> Result<Ma
     requires { is_operator_id id ≡ true }
     ensures err { IfErr result (λ e. e ≢ Memory → (m : PlainMatcher) → ReadableMatcher m
         → spec.matcher_json m ≢ object (member (codes "name") (string name.now)
-        (member (codes "type") (spec.token_json id) (member (codes "value") (string value.now) no_members)))) }
+        (member (codes "type") (token_json id) (member (codes "value") (string value.now) no_members)))) }
     ensures ok { IfOk result (λ m. spec.matcher_json (plain_matcher_of m) ≡ object (member (codes "name") (string name.now)
-        (member (codes "type") (spec.token_json id) (member (codes "value") (string value.now) no_members)))) }
-    ensures place { IfErr result (λ e. (d : Data) → get (codes "type") d ≡ Some (spec.token_json id)
+        (member (codes "type") (token_json id) (member (codes "value") (string value.now) no_members)))) }
+    ensures place { IfErr result (λ e. (d : Data) → get (codes "type") d ≡ Some (token_json id)
         → get (codes "value") d ≡ Some (string value.now) → IsIn matcher d e) }
 {
     let name = String::from_str(alloc, name)?;

@@ -12,6 +12,7 @@ ghost use Rattle.promql_kind.specs.ModifierViews.{cardinality_of, clause_of, fil
 ghost use Rattle.promql_kind.specs.Modifiers.{Cardinality, Clause, Matching, fills, is_including_some};
 ghost use Rattle.promql_ast.specs.OptionalModifiers.{returns_bool};
 ghost use Rattle.promql_json.specs.JsonParts as spec;
+ghost use Rattle.promql_json.specs.FormNames.{is_excluding, optional_labels, type_json};
 ghost use Rattle.promql_json.specs.ReadableBelow.{ReadableFill, ReadableMatching};
 ghost use Rattle.promql_json.specs.FormMisfits.{IsNot, exactly, fill_values, function as function_form, grouped, list_of, modifier, no_list, node_named, one, or_null, word};
 ghost use Rattle.promql_json.specs.MembersLeft.{IsAlone, IsIn, IsRow};
@@ -40,12 +41,12 @@ pub(crate) fn read_grouping(
     without: &Value,
 ) -> Result<Option<LabelModifier>, ReadError>
     ensures labels { IfOk result (λ m. view grouping.now
-        ≡ spec.labels_json (spec.optional_labels (option_map clause_of m))) }
+        ≡ spec.labels_json (optional_labels (option_map clause_of m))) }
     ensures without { IfOk result (λ m. view without.now
-        ≡ boolean (spec.is_excluding (option_map clause_of m))) }
+        ≡ boolean (is_excluding (option_map clause_of m))) }
     ensures err { IfErr result (λ e. e ≢ Memory → (m : Option Clause)
-        → view grouping.now ≡ spec.labels_json (spec.optional_labels m)
-        → view without.now ≢ boolean (spec.is_excluding m)) }
+        → view grouping.now ≡ spec.labels_json (optional_labels m)
+        → view without.now ≢ boolean (is_excluding m)) }
     ensures place { IfErr result (λ e. (n : ℕ) (d : Data) → get (codes "grouping") d ≡ Some (view grouping.now)
         → get (codes "without") d ≡ Some (view without.now) → IsIn (node_named (codes "aggregation") n) d e) }
 {
@@ -68,11 +69,11 @@ fn read_matched(
     is_grouping: bool,
 ) -> Result<Option<LabelModifier>, ReadError>
     ensures labels { IfOk result (λ m. view labels.now
-        ≡ spec.labels_json (spec.optional_labels (option_map clause_of m))) }
+        ≡ spec.labels_json (optional_labels (option_map clause_of m))) }
     ensures on { IfOk result (λ m. view on.now
         ≡ boolean (is_including_some (option_map clause_of m))) }
     ensures err { IfErr result (λ e. e ≢ Memory → (m : Option Clause)
-        → view labels.now ≡ spec.labels_json (spec.optional_labels m)
+        → view labels.now ≡ spec.labels_json (optional_labels m)
         → view on.now ≢ boolean (is_including_some m)) }
     ensures place { IfErr result (λ e. (d : Data) → get (codes "labels") d ≡ Some (view labels.now)
         → get (codes "on") d ≡ Some (view on.now) → IsIn modifier d e) }
@@ -229,10 +230,10 @@ pub(crate) fn read_matching(
 // ---- functions
 
 fn expect_types(alloc: Global, value: &Value, types: &[ValueType]) -> Result<(), ReadError>
-    ensures ok { OnOk result (view value.now ≡ spec.list (map spec.type_json types.now)) }
-    ensures err { IfErr result (λ e. e ≢ Memory → view value.now ≢ spec.list (map spec.type_json types.now)) }
-    ensures place { IfErr result (λ e. view value.now ≢ spec.list (map spec.type_json types.now)
-        → IsIn (list_of ListThere (one FunctionPart)) (view value.now) e ⊎ IsIn (exactly (spec.list (map spec.type_json types.now))) (view value.now) e) }
+    ensures ok { OnOk result (view value.now ≡ spec.list (map type_json types.now)) }
+    ensures err { IfErr result (λ e. e ≢ Memory → view value.now ≢ spec.list (map type_json types.now)) }
+    ensures place { IfErr result (λ e. view value.now ≢ spec.list (map type_json types.now)
+        → IsIn (list_of ListThere (one FunctionPart)) (view value.now) e ⊎ IsIn (exactly (spec.list (map type_json types.now))) (view value.now) e) }
 {
     let list = read_list(alloc, value)?;
     if list.len() != types.len() {
@@ -301,14 +302,14 @@ fn expect_function(
     return_type: &Value,
     variadic: &Value,
 ) -> Result<(), ReadError>
-    ensures types { OnOk result (view types.now ≡ spec.list (map spec.type_json function.now.arg_types.items)) }
+    ensures types { OnOk result (view types.now ≡ spec.list (map type_json function.now.arg_types.items)) }
     ensures experimental { OnOk result (view experimental.now ≡ boolean function.now.experimental) }
-    ensures gives { OnOk result (view return_type.now ≡ spec.type_json function.now.return_type) }
+    ensures gives { OnOk result (view return_type.now ≡ type_json function.now.return_type) }
     ensures variadic { OnOk result (view variadic.now ≡ spec.whole function.now.variadic) }
     ensures err { IfErr result (λ e. e ≢ Memory
-        → view types.now ≡ spec.list (map spec.type_json function.now.arg_types.items)
+        → view types.now ≡ spec.list (map type_json function.now.arg_types.items)
         → view experimental.now ≡ boolean function.now.experimental
-        → view return_type.now ≡ spec.type_json function.now.return_type
+        → view return_type.now ≡ type_json function.now.return_type
         → view variadic.now ≢ spec.whole function.now.variadic) }
     ensures place { IfErr result (λ e. (d : Data) → IsRow (signature_of function.now)
         → get (codes "name") d ≡ Some (string (name_of (signature_of function.now)))

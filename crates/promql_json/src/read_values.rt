@@ -14,7 +14,8 @@ ghost use Rattle.promql_text.specs.declared.number.Number.{Number as AnyNumber};
 ghost use Rattle.promql_token.specs.Ids.{is_one_of, text_of};
 ghost use Rattle.promql_ast.specs.Shifts.{Moment, moment_of, shift_of};
 ghost use Rattle.promql_json.specs.FormMembers.{mode_members};
-ghost use Rattle.promql_json.specs.Json.{step_fault, width_fault};
+ghost use Rattle.promql_json.specs.Json.{width_fault};
+ghost use Rattle.promql_json.specs.FormNames.{step_fault, token_json};
 ghost use Rattle.promql_json.specs.Readable.{ReadableMoment};
 ghost use Rattle.promql_json.specs.ReadableBelow.{ReadableFill};
 ghost use Rattle.promql_json.specs.FormMisfits.{AsksOf, Form, IsNot, MisfitAt, expected_at, one, or_null, row_of, rows, word};
@@ -141,8 +142,8 @@ pub(crate) fn read_id(
     ids: &[TokenId],
     expected: Expected,
 ) -> Result<TokenId, ReadError>
-    ensures ok { IfOk result (λ id. view value.now ≡ spec.token_json id) }
-    ensures err { OnErr result ((id : ℕ) → is_one_of ids.now id ≡ true → view value.now ≢ spec.token_json id) }
+    ensures ok { IfOk result (λ id. view value.now ≡ token_json id) }
+    ensures err { OnErr result ((id : ℕ) → is_one_of ids.now id ≡ true → view value.now ≢ token_json id) }
     ensures place { IfErr result (λ e. IsNot expected (view value.now) → IsIn (word expected) (view value.now) e) }
 {
     let text = read_text(alloc, value)?;

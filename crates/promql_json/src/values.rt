@@ -1,7 +1,9 @@
 //! What the text and the value of the JSON form have in common: docs/reference/json.md, "Parts".
 
-ghost use Rattle.std.specs.Prelude.{◌≡◌, option_map};
+ghost use Rattle.std.specs.Prelude.{◌≡◌, false, not, option_map};
+ghost use Rattle.std.specs.Option.{option_map_or};
 ghost use Rattle.promql_kind.specs.ModifierViews.{clause_of};
+ghost use Rattle.promql_kind.specs.Modifiers.{is_including};
 ghost use Rattle.promql_ast.specs.Shifts.{shift_of};
 ghost use Rattle.promql_json.specs.JsonParts as spec;
 
@@ -10,7 +12,7 @@ use promql_kind::LabelModifier;
 
 /// Whether an aggregation's clause is `without`: the key `without`.
 pub fn is_without(modifier: &Option<LabelModifier>) -> bool
-    ensures { result ≡ spec.is_excluding (option_map clause_of modifier.now) }
+    ensures { result ≡ option_map_or (λ c. not (is_including c)) (option_map clause_of modifier.now) false }
 {
     match modifier {
         Some(modifier) => !modifier.is_include(),

@@ -12,7 +12,8 @@ use Rattle.promql_text.specs.Texts.{Text}
 use Rattle.promql_label.specs.PlainMatchers.{PlainMatcher, plain_matcher, PlainMatchers, plain_matchers}
 use Rattle.promql_ast.specs.Selectors.{selector}
 use Rattle.promql_ast.specs.Tree.{Tree, aggregate, unary, binary, paren, subquery, number, string, vector, matrix, call, extension, MaybeTree, absent, present, Trees, no_trees, first_tree}
-use Rattle.promql_json.specs.Json.{first_fault, json, json_value, node_members, type_name, unless}
+use Rattle.promql_json.specs.Json.{first_fault, json, json_value}
+use Rattle.promql_json.specs.FormNames.{node_members, type_name, unless}
 use Rattle.promql_json.specs.JsonParts.{list}
 use Rattle.promql_json.specs.JsonFaults.{args_fault, json_fault, param_fault}
 use Rattle.promql_json.specs.declared.error.JsonError.{JsonError}

@@ -14,7 +14,8 @@ use Rattle.promql_ast.specs.Fold.{all_within}
 use Rattle.promql_ast.specs.Tree.{Tree, aggregate, unary, binary, paren, subquery, number, string, vector, matrix, call, extension, MaybeTree, absent, present, Trees, no_trees, first_tree}
 use Rattle.promql_ast.specs.View.{tree_of, trees_of}
 use Rattle.promql_ast.specs.declared.expr.Expr.{Expr}
-use Rattle.promql_json.specs.Json.{first_fault, json, json_value, node_members, own_fault, type_name, unless}
+use Rattle.promql_json.specs.Json.{first_fault, json, json_value, own_fault}
+use Rattle.promql_json.specs.FormNames.{node_members, type_name, unless}
 use Rattle.promql_json.specs.JsonFaults.{args_fault, json_fault}
 use Rattle.promql_json.specs.declared.error.JsonError.{JsonError}
 use Rattle.promql_json.proofs.FaultOrder.{first_met}

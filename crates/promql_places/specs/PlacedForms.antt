@@ -7,7 +7,7 @@ use Rattle.promql_label.specs.PlainMatchers.{PlainMatcher, PlainMatchers, plain_
 use Rattle.promql_ast.specs.Fold.{maybe_within}
 use Rattle.promql_ast.specs.Selectors.{selector}
 use Rattle.promql_ast.specs.Tree.{Tree, aggregate, unary, binary, paren, subquery, vector, matrix, call, MaybeTree, absent, present, Trees, no_trees, first_tree}
-use Rattle.promql_json.specs.Json.{json_value, node_members, type_name}
+use Rattle.promql_json.specs.Json.{json_value, node_parts}
 use Rattle.promql_json.specs.JsonParts.{list, matcher_json}
 use Rattle.promql_span.specs.declared.span.Span.{Span}
 use Rattle.promql_places.specs.NodeParts.{AreParts}
@@ -65,7 +65,7 @@ param_count p = length (maybe_within [] ◌++◌ ◌∷◌ p)
 abbrev pub placed_node : (List Span → List NodePlace → Members → Members) → Tree → List NodePlace → Data
 placed_node anew t [] = json_value t
 placed_node anew t (p ∷ ps) =
-    object (with_place p.0 (anew (matcher_places p.1) ps (put (codes "type") (text (type_name t)) (node_members t))))
+    object (with_place p.0 (anew (matcher_places p.1) ps (put (codes "type") (text (node_parts t).0) (node_parts t).1)))
 
 -- places are in the order of a walk, and those of a node come before those below it
 abbrev mutual

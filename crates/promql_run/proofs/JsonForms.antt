@@ -3,11 +3,12 @@ use Rattle.std.proofs.Common.{◌≡◌, ℤ, ℕ, ◌∙◌}
 use Rattle.std.specs.Prelude.{Bool, true, false, if◌then◌else◌, Option, Some, None, Err}
 use Rattle.std.specs.Option.{option_or}
 use Rattle.serde_json.specs.Data.{Data}
-use Rattle.promql_ast.specs.Selectors.{Selector, selector}
+use Rattle.promql_ast.specs.Selectors.{selector}
 use Rattle.promql_ast.specs.Tree.{Tree, aggregate, unary, binary, paren, subquery, number, string, vector, matrix, call, extension, MaybeTree, absent, present, Trees, no_trees, first_tree}
 use Rattle.promql_json.specs.declared.error.JsonError.{JsonError}
 use Rattle.promql_json.specs.declared.error.JsonError.TheVariants.{Memory, NumberTooWide, Extension}
-use Rattle.promql_json.specs.Json.{width_fault, step_fault, selector_fault, own_fault, first_fault, unless, json, json_value}
+use Rattle.promql_json.specs.Json.{width_fault, own_fault, first_fault, json, json_value}
+use Rattle.promql_json.specs.FormNames.{step_fault, unless}
 use Rattle.promql_json.specs.JsonFaults.{json_fault, param_fault, args_fault}
 use Rattle.promql_json.specs.JsonParts.{millis, shift_millis}
 use Rattle.promql_json.proofs.FaultOrder.{first_met}
@@ -34,9 +35,6 @@ step_is_none : (step : Option ℕ) → IsNoExtension (step_fault step)
 step_is_none None = tt
 step_is_none (Some n) = width_is_none (millis n)
 
-selector_is_none : (s : Selector) → IsNoExtension (selector_fault s)
-selector_is_none (selector name ms offset at) = width_is_none (shift_millis offset)
-
 mutual
   none_at_fault : (t : Tree) → HasNoExtension t → IsNoExtension (json_fault t)
   none_at_fault (aggregate op e p m) plain = first_is_none (param_fault p) (json_fault e) (param_is_none p plain.0) (none_at_fault e plain.1)
@@ -50,9 +48,9 @@ mutual
       (none_at_fault e plain)
   none_at_fault (number n) plain = tt
   none_at_fault (string s) plain = tt
-  none_at_fault (vector s) plain = selector_is_none s
-  none_at_fault (matrix s range mode) plain =
-      first_is_none (selector_fault s) (width_fault (millis range)) (selector_is_none s) (width_is_none (millis range))
+  none_at_fault (vector (selector name ms offset at)) plain = width_is_none (shift_millis offset)
+  none_at_fault (matrix (selector name ms offset at) range mode) plain =
+      first_is_none (width_fault (shift_millis offset)) (width_fault (millis range)) (width_is_none (shift_millis offset)) (width_is_none (millis range))
   none_at_fault (call f args) plain = args_are_none args plain
   none_at_fault (extension name gives es) plain = absurd plain
 

@@ -3,8 +3,8 @@ use Rattle.std.specs.Prelude.{[], ◌∷◌, codes}
 use Rattle.serde_json.specs.Data.{boolean, string as text, Members, no_members, put}
 use Rattle.promql_ast.specs.OptionalModifiers.{returns_bool}
 use Rattle.promql_ast.specs.Tree.{Tree, aggregate, unary, binary, paren, subquery, call}
-use Rattle.promql_json.specs.Json.{node_members, type_name}
-use Rattle.promql_json.specs.JsonParts.{members, or_null, whole, labels_json, optional_labels, is_excluding, matching_json, millis, shift_millis, start_or_end, timestamp, token_json, function_json}
+use Rattle.promql_json.specs.FormNames.{is_excluding, node_members, optional_labels, token_json, type_name}
+use Rattle.promql_json.specs.JsonParts.{members, or_null, whole, labels_json, matching_json, millis, shift_millis, start_or_end, timestamp, function_json}
 
 -- without `type`
 abbrev pub plain_members : Tree → Members

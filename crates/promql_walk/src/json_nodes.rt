@@ -5,7 +5,8 @@ ghost use Rattle.serde_json.specs.Data.{no_members, object, put as with_member, 
 ghost use Rattle.serde_json.specs.View.{items_view, members_view, view};
 ghost use Rattle.promql_ast.specs.Tree.{number, string};
 ghost use Rattle.promql_ast.specs.View.{aggregate_tree, binary_tree, call_tree, matrix_tree, option_tree, paren_tree, selector_of, subquery_tree, tree_of, trees_of, unary_tree};
-ghost use Rattle.promql_json.specs.Json.{args_items, json_value, node_members, own_fault, param_json as param_value, selector_fault, selector_members as selector_parts};
+ghost use Rattle.promql_json.specs.Json.{args_items, json_value, own_fault, param_json as param_value, selector_members as selector_parts};
+ghost use Rattle.promql_json.specs.FormNames.{node_members, selector_fault};
 ghost use Rattle.promql_json.specs.JsonFaults.{args_fault, args_members as args_parts, json_fault, param_fault};
 ghost use Rattle.promql_json.specs.declared.error.JsonError.TheVariants.{Memory};
 ghost use Rattle.promql_walk.specs.PlainMembers.{plain_members, typed_members};

@@ -4,12 +4,15 @@ ghost use Rattle.std.specs.Prelude.{◌≡◌, None, Some, IfErr, IfOk, OnOk, ma
 ghost use Rattle.std.specs.Duration.{as_nanos};
 ghost use Rattle.serde_json.specs.Data.{string as text};
 ghost use Rattle.serde_json.specs.View.{members_view, view};
+ghost use Rattle.promql_token.specs.Ids.{text_of};
 ghost use Rattle.promql_label.specs.Labels.{labels_of};
 ghost use Rattle.promql_label.specs.MatcherViews.{operator_of, plain_matcher_of, plain_matchers_of};
+ghost use Rattle.promql_label.specs.PlainMatchers.{operator_text};
 ghost use Rattle.promql_kind.specs.Functions.{signature_of};
 ghost use Rattle.promql_kind.specs.ModifierViews.{cardinality_of, clause_of, fills_of, matching_of};
 ghost use Rattle.promql_ast.specs.Shifts.{moment_of};
-ghost use Rattle.promql_json.specs.Json.{step_fault, width_fault};
+ghost use Rattle.promql_json.specs.Json.{width_fault};
+ghost use Rattle.promql_json.specs.FormNames.{optional_labels, step_fault, type_json};
 ghost use Rattle.promql_json.specs.JsonParts as spec;
 
 use promql_ast::{AtModifier, RangeMode};
@@ -31,7 +34,7 @@ use std::time::Duration;
 ///
 /// `AllocError` where an allocation failed.
 pub fn token_type_json(alloc: Global, token: TokenType) -> Result<Value, AllocError>
-    ensures { IfOk result (λ v. view v ≡ spec.token_json token) }
+    ensures { IfOk result (λ v. view v ≡ text (text_of token)) }
 {
     Value::try_from_str(alloc, token_display(token.id()))
 }
@@ -42,7 +45,7 @@ pub fn token_type_json(alloc: Global, token: TokenType) -> Result<Value, AllocEr
 ///
 /// `AllocError` where an allocation failed.
 pub fn match_op_json(alloc: Global, op: &MatchOp) -> Result<Value, AllocError>
-    ensures { IfOk result (λ v. view v ≡ spec.operator_json (operator_of op.now)) }
+    ensures { IfOk result (λ v. view v ≡ text (operator_text (operator_of op.now))) }
 {
     Ok(Value::String(format!(in alloc; "{op}")?))
 }
@@ -162,7 +165,7 @@ pub(crate) fn optional_labels_json(
     modifier: &Option<LabelModifier>,
 ) -> Result<Value, AllocError>
     ensures { IfOk result
-        (λ v. view v ≡ spec.labels_json (spec.optional_labels
+        (λ v. view v ≡ spec.labels_json (optional_labels
         (option_map clause_of modifier.now))) }
 {
     match modifier {
@@ -312,13 +315,13 @@ pub(crate) fn put_mode(
 }
 
 pub(crate) fn type_json(alloc: Global, value_type: ValueType) -> Result<Value, AllocError>
-    ensures { IfOk result (λ v. view v ≡ spec.type_json value_type) }
+    ensures { IfOk result (λ v. view v ≡ type_json value_type) }
 {
     Ok(Value::String(format!(in alloc; "{value_type}")?))
 }
 
 fn types_json(alloc: Global, types: &[ValueType]) -> Result<Value, AllocError>
-    ensures { IfOk result (λ v. view v ≡ spec.list (map spec.type_json types.now)) }
+    ensures { IfOk result (λ v. view v ≡ spec.list (map type_json types.now)) }
 {
     let mut list = Vec::with_capacity(alloc, types.len())?;
     for value_type in types {

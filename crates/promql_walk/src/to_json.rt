@@ -1,14 +1,15 @@
 //! The JSON form of a tree, its nodes and their parts: docs/reference/json.md.
 
 ghost use Rattle.std.specs.Prelude.{◌≡◌, ◌≢◌, Err, IfErr, IfOk, Ok, Result, string_bytes};
-ghost use Rattle.serde_json.specs.Data.{Data};
+ghost use Rattle.serde_json.specs.Data.{Data, string as text};
 ghost use Rattle.serde_json.specs.View.{view};
 ghost use Rattle.promql_kind.specs.Functions.{signature_of};
 ghost use Rattle.promql_kind.specs.ModifierViews.{cardinality_of, fills_of};
+ghost use Rattle.promql_kind.specs.ValueTypes.{type_text};
 ghost use Rattle.promql_ast.specs.Tree.{number, string};
 ghost use Rattle.promql_ast.specs.View.{aggregate_tree, binary_tree, call_tree, matrix_tree, paren_tree, subquery_tree, tree_of, trees_of, unary_tree, vector_tree};
 ghost use Rattle.promql_json.specs.Json as spec;
-ghost use Rattle.promql_json.specs.JsonParts.{cardinality_json as cardinality_value, fills_json as fills_value, function_json as function_value, type_json as type_value};
+ghost use Rattle.promql_json.specs.JsonParts.{cardinality_json as cardinality_value, fills_json as fills_value, function_json as function_value};
 ghost use Rattle.promql_json.specs.declared.error.JsonError.{JsonError};
 ghost use Rattle.promql_json.specs.declared.error.JsonError.TheVariants.{Memory};
 
@@ -154,7 +155,7 @@ impl ToJson for Function {
 }
 
 impl ToJson for ValueType {
-    ghost json = { λ t. Ok (type_value t) };
+    ghost json = { λ t. Ok (text (type_text t)) };
 
     fn to_json(&self, alloc: Global) -> Result<Value, JsonError> {
         Ok(type_json(alloc, *self)?)

@@ -8,7 +8,8 @@ use Rattle.promql_ast.specs.View.{tree_of}
 use Rattle.promql_ast.specs.declared.expr.Expr.{the_lemmas}
 use Rattle.promql_ast.proofs.nodes.NodeParts.{tree_of_call}
 use Rattle.promql_json.specs.JsonFaults.{json_fault}
-use Rattle.promql_json.specs.JsonParts.{matching_json, or_null, token_json}
+use Rattle.promql_json.specs.JsonParts.{matching_json, or_null}
+use Rattle.promql_json.specs.FormNames.{token_json}
 use Rattle.promql_json.specs.JsonTokens.{member, tree_tokens}
 use Rattle.promql_json.proofs.JsonTokens.{ok_after}
 use Rattle.promql_json.proofs.nodes.+text.Goals as goal

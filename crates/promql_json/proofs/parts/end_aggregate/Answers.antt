@@ -2,7 +2,7 @@ use Rattle.std.proofs.Common.{codes, option_map, refl}
 use Rattle.std.proofs.lemmas.Result.{IfOk-equal}
 use Rattle.serde_json.specs.Data.{boolean, string}
 use Rattle.promql_kind.specs.ModifierViews.{clause_of}
-use Rattle.promql_json.specs.JsonParts.{is_excluding}
+use Rattle.promql_json.specs.FormNames.{is_excluding}
 use Rattle.promql_json.specs.JsonTokens.{member}
 use Rattle.promql_json.proofs.JsonTokens.{ok_after}
 use Rattle.promql_json.proofs.parts.end_aggregate.Goals as goal

@@ -3,7 +3,8 @@ use Rattle.std.proofs.lemmas.Result.{IfOk-equal}
 use Rattle.json.specs.Token as token
 use Rattle.serde_json.specs.Data.{boolean, string}
 use Rattle.promql_kind.specs.ValueTypes.{type_text}
-use Rattle.promql_json.specs.JsonParts.{list, type_json, whole}
+use Rattle.promql_json.specs.JsonParts.{list, whole}
+use Rattle.promql_json.specs.FormNames.{type_json}
 use Rattle.promql_json.specs.JsonTokens.{member, tokens}
 use Rattle.promql_json.proofs.JsonTokens.{ok_after}
 use Rattle.promql_json.proofs.parts.write_function.Goals as goal

@@ -4,7 +4,8 @@ use Rattle.json.specs.Token as token
 use Rattle.serde_json.specs.Data.{boolean}
 use Rattle.promql_kind.specs.Modifiers.{is_on}
 use Rattle.promql_kind.specs.ModifierViews.{clause_of, matching_of}
-use Rattle.promql_json.specs.JsonParts.{labels_json, optional_labels}
+use Rattle.promql_json.specs.JsonParts.{labels_json}
+use Rattle.promql_json.specs.FormNames.{optional_labels}
 use Rattle.promql_json.specs.JsonTokens.{member}
 use Rattle.promql_json.proofs.JsonTokens.{ok_after}
 use Rattle.promql_json.proofs.parts.write_matched.Goals as goal

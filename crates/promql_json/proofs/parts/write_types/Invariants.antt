@@ -1,5 +1,5 @@
 use Rattle.std.proofs.Common.{◌≡◌, ◌++◌, drop, map}
-use Rattle.promql_json.specs.JsonParts.{type_json}
+use Rattle.promql_json.specs.FormNames.{type_json}
 use Rattle.promql_json.specs.JsonTokens.{rest_of_list}
 use Rattle.promql_json.proofs.parts.write_types.Given as goal
 

@@ -6,7 +6,8 @@ use Rattle.promql_json.specs.declared.from_error.Expected.TheVariants.{FunctionP
 use Rattle.promql_json.proofs.ErrorPlaces.{either_by_kind, moved}
 use Rattle.promql_kind.specs.Functions.{signature_of}
 use Rattle.serde_json.specs.Data.{string}
-use Rattle.promql_json.specs.JsonParts.{list, type_json, whole}
+use Rattle.promql_json.specs.JsonParts.{list, whole}
+use Rattle.promql_json.specs.FormNames.{type_json}
 use Rattle.promql_json.proofs.read_modifiers.expect_function.Goals as goal
 
 pub returns-in-Err-expect_flag-clause-place : goal.returns-in-Err-expect_flag-clause-place

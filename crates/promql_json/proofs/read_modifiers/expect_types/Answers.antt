@@ -3,7 +3,8 @@ use Rattle.serde_json.specs.Data.{string}
 use Rattle.serde_json.specs.Find.{at}
 use Rattle.promql_kind.specs.declared.value.ValueType.{ValueType}
 use Rattle.serde_json.specs.View.{items_of, view}
-use Rattle.promql_json.specs.JsonParts.{list, type_json}
+use Rattle.promql_json.specs.JsonParts.{list}
+use Rattle.promql_json.specs.FormNames.{type_json}
 use Rattle.promql_json.proofs.ReadForms.{same_at, same_length, err_within}
 use Rattle.promql_json.specs.FormMisfits.{list_of, one, differs, exactly}
 use Rattle.promql_json.specs.declared.from_error.Expected.TheVariants.{FunctionPart, List as ListThere}

@@ -1,6 +1,6 @@
 use Rattle.std.proofs.Common.{◌≡◌, map, take}
 use Rattle.serde_json.specs.View.{view}
-use Rattle.promql_json.specs.JsonParts.{type_json}
+use Rattle.promql_json.specs.FormNames.{type_json}
 use Rattle.promql_json.proofs.read_modifiers.expect_types.Given as goal
 
 abbrev pub invariant-loop-i : goal.invariant-loop-i

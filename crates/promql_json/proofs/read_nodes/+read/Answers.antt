@@ -7,7 +7,7 @@ use Rattle.std.proofs.lemmas.Grind.{common_steps}
 use Rattle.serde_json.specs.View.{items_of, members_view, view}
 use Rattle.promql_ast.specs.View.{tree_of, trees_of}
 use Rattle.promql_json.specs.JsonFaults.{args_fault, json_fault}
-use Rattle.promql_json.proofs.NoNodes.{no_node}
+use Rattle.promql_json.proofs.NoNodes.{no_node, no_other_node}
 use Rattle.promql_json.proofs.ReadForms.{err_within, items_of_args, no_args, one_more_fits, rest_of, same_members, value_of, differ}
 use Rattle.promql_json.specs.declared.from_error.Expected.TheVariants.{Aggregator, Flag, List as ListThere, LowTree, Minus, Operator}
 use Rattle.promql_json.proofs.ErrorPlaces.{one_here, nullable, in_typed, tree_type, typed_as, matching_asked, same_type, untyped_node, no_row}
@@ -311,3 +311,30 @@ pub read_expr-returns-clause-place : goal.read_expr-returns-clause-place
 read_expr-returns-clause-place t c =
     rw c.in_ok-members.ensures.ok (IfErr-weaker c.read_node.result _ _
     (λ e place. subst (λ k. IsIn (node k) (object (members_view c.in_ok-members.members.now.entries)) e) (less_one c.args.depth c.if-depth-eq0.false) place) c.read_node.ensures.place)
+
+pub read_node-returns-in_default-clause-err : goal.read_node-returns-in_default-clause-err
+read_node-returns-in_default-clause-err t c = λ other tree fine h.
+    let d = c.in_default in
+    no_other_node _ _ c.args.node.now tree (
+      d.not-aggregation,
+      (
+        d.not-unaryExpr,
+        (
+          d.not-binaryExpr,
+          (
+            d.not-parenExpr,
+            (
+              d.not-subquery,
+              (
+                d.not-numberLiteral,
+                (
+                  d.not-stringLiteral,
+                  (d.not-vectorSelector, (d.not-matrixSelector, (d.not-call, tt))),
+                ),
+              ),
+            ),
+          ),
+        ),
+      ),
+    )
+    (tree_type _ _ c.requires.1.1 tree h) fine h
