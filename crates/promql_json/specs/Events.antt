@@ -1,6 +1,6 @@
 -- The events of a walk (docs/reference/walks.md, "Order").
 use Rattle.std.specs.Prelude.{List, [], ◌∷◌, ◌++◌}
-use Rattle.promql_ast.specs.Fold.{within, maybe_within, all_within}
+use Rattle.promql_ast.specs.Fold.{folded, within, maybe_within, all_within}
 use Rattle.promql_ast.specs.Tree.{Tree, MaybeTree, Trees}
 
 pub data Event : Type 0 where
@@ -10,7 +10,12 @@ pub data Event : Type 0 where
 abbrev pub around : Tree → List Event → List Event
 around t inner = before t ∷ (inner ++ after t ∷ [])
 
--- the events of a node's children, in their order
+-- "Order": before the node, the events of its children, after it
+abbrev pub events : Tree → List Event
+events = folded [] ◌++◌ around
+
+-- ---- Private: the events of a node's children, in their order, and of lists of nodes. No contract of a public function speaks of them.
+
 abbrev pub inner_events : Tree → List Event
 inner_events = within [] ◌++◌ around
 
@@ -19,7 +24,3 @@ param_events = maybe_within [] ◌++◌ around
 
 abbrev pub all_events : Trees → List Event
 all_events = all_within [] ◌++◌ around
-
--- "Order": before the node, the events of its children, after it
-abbrev pub events : Tree → List Event
-events t = around t (inner_events t)

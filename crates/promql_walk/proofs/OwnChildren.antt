@@ -1,12 +1,13 @@
 -- The children of a node.
-use Rattle.std.proofs.Common.{◌≡◌, ◌∙◌, [], ◌∷◌, ◌++◌, refl, sym, ap}
+use Rattle.std.proofs.Common.{◌≡◌, ◌∙◌, List, [], ◌∷◌, ◌++◌, refl, sym, ap}
+use Rattle.std.specs.List.{flat_map}
 use Rattle.promql_ast.specs.Fold.{all_within}
 use Rattle.promql_ast.specs.Tree.{Tree, aggregate, unary, binary, paren, subquery, number, string, vector, matrix, call, extension, absent, present, Trees, no_trees, first_tree}
 use Rattle.promql_ast.specs.View.{trees}
 use Rattle.std.proofs.lemmas.List.{append-nil}
 use Rattle.promql_walk.specs.ChangedChildren.{own_children}
 use Rattle.promql_walk.specs.Children.{children, with_children}
-use Rattle.promql_json.specs.Events.{events, inner_events, all_events}
+use Rattle.promql_json.specs.Events.{around, events, inner_events, all_events}
 
 all_are : (ts : Trees) → ts ≡ trees (all_within [] ◌++◌ (λ e below. e ∷ []) ts)
 all_are no_trees = refl
@@ -54,8 +55,12 @@ with_own (matrix s range mode) = refl
 with_own (call f args) = refl
 with_own (extension name gives es) = refl
 
-pub of_children : (t : Tree) → inner_events t ≡ all_events (children t)
-of_children t = of_own t ∙ ap all_events (children_are t)
+one_by_one : (ts : List Tree) → all_events (trees ts) ≡ flat_map events ts
+one_by_one [] = refl
+one_by_one (t ∷ ts) = ap (λ es. events t ++ es) (one_by_one ts)
+
+pub of_children : (t : Tree) (ts : List Tree) → children t ≡ trees ts → events t ≡ around t (flat_map events ts)
+of_children t ts are = ap (around t) (of_own t ∙ ap all_events (children_are t ∙ are) ∙ one_by_one ts)
 
 pub own : (t : Tree) → with_children t (children t) ≡ t
 own t = ap (with_children t) (sym (children_are t)) ∙ with_own t
