@@ -1,5 +1,7 @@
 pub mod ErrorPlaces
 pub mod FaultOrder
+pub mod FaultsOfForms
+pub mod FormRows
 pub mod Forms
 pub mod JsonTokens
 pub mod NoFloat

@@ -1,6 +1,7 @@
 -- What is left of an object's members, and where a fault is.
 use Rattle.std.proofs.Common.{◌<◌, length, get_or, ◌&&◌, not, Bool, true, false, true≢false, if◌then◌else◌, ◌≡◌, ◌≢◌, ℕ, List, [], ◌∷◌, ◌++◌, Option, Some, None, String, Global, Ordering, Less, Equal, Greater, string_bytes, string_cmp, nat_cmp, refl, sym, ap, subst, ◌∙◌, codes}
 use Rattle.std.proofs.lemmas.Cmp.{nat_list_cmp_total, tied_itself}
+use Rattle.std.specs.Prelude.{is_some, slice_get}
 use Rattle.std.specs.Cmp.Lexicographic.{slice_cmp}
 use Rattle.std.specs.List.{AllByRecursion}
 use Rattle.std.specs.List.Sorted.{IsStrictlySortedBy}
@@ -16,7 +17,7 @@ use Rattle.serde_json.specs.View.{items_view, members_view, view}
 use Rattle.serde_json.proofs.Views.{Entry, get_item_within}
 use Rattle.serde_json.specs.declared.value.Value.{Value}
 use Rattle.promql_json.specs.FormMisfits.{Form, MisfitAt, may_be_left_out, missing, row_of, rows, unknown}
-use Rattle.promql_json.specs.MembersLeft.{Ascends, AreLeft, follows, in_order, is_after, is_before, is_below, is_wanted, none_between}
+use Rattle.promql_json.specs.MembersLeft.{Ascends, AreLeft, begins, follows, in_order, is_after, is_before, is_below, is_wanted, none_between}
 use Rattle.promql_text.specs.Texts.{Text}
 use Rattle.promql_json.specs.declared.from_error.Expected.TheVariants.{Missing, Unknown}
 
@@ -85,15 +86,20 @@ not_true false h = refl
 
 -- ---- the next member
 
-pub all_left : (f : Form) (next : Text) (es : List Entry) → IsStrictlySortedBy string_cmp (keys_of es) → follows f None (Some next) ≡ true
+some_row : {A : Type 0} (table : List (Text × A)) → is_some (slice_get table 0) ≡ true → table ≢ []
+some_row [] some none = true≢false (sym some)
+some_row (x ∷ table) some none = cc
+
+pub all_left : (f : Form) (next : Text) (es : List Entry) → IsStrictlySortedBy string_cmp (keys_of es) → begins f next ≡ true
     → AreLeft f (object (members_view es)) (Some next) (members_view es)
 all_left f next es sorted first = record {
   whole = (members_view es, refl);
+  rows_known = some_row (rows f) (both_true (is_some (slice_get (rows f) 0)) (follows f None (Some next)) first).0;
   last = None;
   found = λ q _. refl;
   ascends = ascending es sorted;
   ahead = refl;
-  unlisted = λ k v more is before. between (rows f) None (Some next) k first refl before;
+  unlisted = λ k v more is before. between (rows f) None (Some next) k (both_true (is_some (slice_get (rows f) 0)) (follows f None (Some next)) first).1 refl before;
 }
 
 pub next_left : (f : Form) (d : Data) (rest : Members) (name : Text) (v : Data) (more : Members)
@@ -105,6 +111,7 @@ next_left f d rest name v more is left =
       found name left.ahead ∙ ap (λ o. match_ordering o (get_member name more) (Some v) (get_member name more)) (tied_itself nat_list_cmp_total name),
       λ after next. record {
         whole = left.whole;
+        rows_known = left.rows_known;
         last = Some name;
         found = λ q less. found q (further left.last name q left.ahead less)
             ∙ ap (λ o. match_ordering o (get_member q more) (Some v) (get_member q more)) (above name q less);
@@ -133,6 +140,7 @@ skipped f d rest name after none left next =
     let both = both_true (option_map_or (is_after (Some name)) after true) (none_between (rows f) (Some name) after) next in
     record {
       whole = left.whole;
+      rows_known = left.rows_known;
       last = left.last;
       found = left.found;
       ascends = left.ascends;
@@ -152,7 +160,7 @@ unknown_left f d next rest key v more is left before =
     let there : get key d ≡ Some v = left.found key ascends.0 ∙ ap (get_member key) is
     ∙ ap (λ o. match_ordering o (get_member key more) (Some v) (get_member key more)) (tied_itself nat_list_cmp_total key) in
     subst (λ x. MisfitAt f x (codes "." ++ key) Unknown) (sym left.whole.1)
-    (unknown f left.whole.0 key v (left.unlisted key v more is before) (rw left.whole.1 at there))
+    (unknown f left.whole.0 key v left.rows_known (left.unlisted key v more is before) (rw left.whole.1 at there))
 
 wanted_left : (f : Form) (d : Data) (rest : Members) (name : Text)
     → get_member name rest ≡ None → AreLeft f d (Some name) rest → is_wanted f name ≡ true → MisfitAt f d (codes "." ++ name) Missing

@@ -1,4 +1,5 @@
--- Where a value is no form, and what was expected there (docs/reference/json.md, "Members" and "From JSON to a tree").
+-- Private: a relation of a value that is no form, a path and what was expected there, which readers give. `FormFaults` says more shortly
+-- what follows from it. No contract of a public function speaks of it.
 use Rattle.std.specs.Prelude.{◌≡◌, ◌≢◌, ℕ, ◌+◌, ℤ, List, [], ◌∷◌, ◌++◌, ◌||◌, Bool, true, false, if◌then◌else◌, Option, Some, None, codes, slice_get, FitsSigned}
 use Rattle.std.specs.Fmt.{decimal}
 use Rattle.std.specs.Int.{w64}
@@ -87,7 +88,7 @@ pub data AsksOf : Form → Data → Text → Form → Type 0 where
   by_row : (f g : Form) (d : Data) (name : Text) → row_of name (rows f) ≡ Some g → AsksOf f d name g
   by_match : (d : Data) → get (codes "type") d ≡ Some (string (codes "=~")) → AsksOf matcher d (codes "value") (one kind.Pattern)
   by_no_match : (d : Data) → get (codes "type") d ≡ Some (string (codes "!~")) → AsksOf matcher d (codes "value") (one kind.Pattern)
-  by_start_or_end : (f g : Form) (d v : Data) → row_of (codes "timestamp") (rows f) ≡ Some g → get (codes "startOrEnd") d ≡ Some v → v ≢ null
+  by_start_or_end : (f : Form) (d v : Data) → row_of (codes "timestamp") (rows f) ≡ Some (or_null (one kind.Millis)) → get (codes "startOrEnd") d ≡ Some v → v ≢ null
       → AsksOf f d (codes "timestamp") (one kind.NoTimestamp)
   by_bool : (n : ℕ) (d : Data) → get (codes "bool") d ≡ Some (boolean true) → AsksOf (node_named (codes "binaryExpr") n) d (codes "matching") modifier
   by_function : (s : Signature) (d v : Data) (name : Text) → function_named (name_of s) ≡ Some s → get (codes "name") d ≡ Some (string (name_of s))
@@ -134,7 +135,7 @@ pub data MisfitAt : Form → Data → Text → Expected → Type 0 where
   too_high : (d : Data) → MisfitAt (node 0) d [] kind.LowTree
   missing : (f g : Form) (ms : Members) (name : Text) → row_of name (rows f) ≡ Some g → may_be_left_out name ≡ false → get_member name ms ≡ None
       → MisfitAt f (object ms) (codes "." ++ name) kind.Missing
-  unknown : (f : Form) (ms : Members) (name : Text) (v : Data) → row_of name (rows f) ≡ None → get_member name ms ≡ Some v
+  unknown : (f : Form) (ms : Members) (name : Text) (v : Data) → rows f ≢ [] → row_of name (rows f) ≡ None → get_member name ms ≡ Some v
       → MisfitAt f (object ms) (codes "." ++ name) kind.Unknown
   untyped : (n : ℕ) (ms : Members) → ((name : Text) → get_member (codes "type") ms ≡ Some (string name) → row_of name (nodes n) ≡ None)
       → MisfitAt (node (n + 1)) (object ms) (codes ".type") kind.Node

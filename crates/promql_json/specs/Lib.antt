@@ -1,4 +1,5 @@
 pub mod Events
+pub mod FormFaults
 pub mod FormMembers
 pub mod FormMisfits
 pub mod FormNames

@@ -1,5 +1,5 @@
 -- Private: what is left of an object's members, and an error that is in a value. No contract of a public function speaks of it.
-use Rattle.std.specs.Prelude.{◌≡◌, ◌≢◌, ◌&&◌, Bool, true, false, not, List, [], ◌∷◌, Option, Some, None, codes, string_bytes}
+use Rattle.std.specs.Prelude.{◌≡◌, ◌≢◌, ◌&&◌, Bool, true, false, not, List, [], ◌∷◌, Option, Some, None, is_some, slice_get, codes, string_bytes}
 use Rattle.std.specs.Cmp.Lexicographic.{slice_cmp}
 use Rattle.std.specs.Option.{option_map_or}
 use Rattle.std.specs.Ordering.{is_lt, nat_cmp}
@@ -34,6 +34,10 @@ none_between ((k, a) ∷ more) last next = not (is_after last k && is_before k n
 abbrev pub follows : Form → Option Text → Option Text → Bool
 follows f last next = option_map_or (is_after last) next true && none_between (rows f) last next
 
+-- the form is of objects, and its first row is of this name
+abbrev pub begins : Form → Text → Bool
+begins f first = is_some (slice_get (rows f) 0) && follows f None (Some first)
+
 -- an object of the form has to have this member
 abbrev pub is_wanted : Form → Text → Bool
 is_wanted f name = option_map_or (λ g. true) (row_of name (rows f)) false && not (may_be_left_out name)
@@ -51,6 +55,7 @@ Ascends last (member k v ms) = (is_after last k ≡ true) × Ascends (Some k) ms
 -- of d, which is to be of a form, these members are left, in order, and the next row is of this name
 pub record AreLeft (f : Form) (d : Data) (next : Option Text) (rest : Members) : Type 0 where
   pub whole : (ms : Members) × (d ≡ object ms)
+  pub rows_known : rows f ≢ []
   pub last : Option Text
   pub found : (name : Text) → is_after last name ≡ true → get name d ≡ get_member name rest
   pub ascends : Ascends last rest

@@ -6,7 +6,7 @@ ghost use Rattle.serde_json.specs.Find.{get};
 ghost use Rattle.serde_json.specs.View.{members_view, view};
 ghost use Rattle.promql_text.specs.Texts.{Text};
 ghost use Rattle.promql_json.specs.FormMisfits.{Form};
-ghost use Rattle.promql_json.specs.MembersLeft.{AreLeft, IsIn, follows, in_order};
+ghost use Rattle.promql_json.specs.MembersLeft.{AreLeft, IsIn, begins, follows, in_order};
 ghost use Rattle.promql_json.specs.declared.from_error.ReadError.TheVariants.{Memory};
 
 use crate::from_error::{Expected, ReadError, member};
@@ -24,7 +24,7 @@ pub(crate) struct Fields<'v> {
 impl<'v> Fields<'v> {
     pub(crate) fn new(members: &'v Map<String, Value>) -> Fields<'v>
         ensures all { result.rest ≡ members.now.entries }
-        ensures left { (f : Form) (first : Text) → follows f None (Some first) ≡ true
+        ensures left { (f : Form) (first : Text) → begins f first ≡ true
             → AreLeft f (object (members_view members.now.entries)) (Some first) (members_view result.rest) }
     {
         Fields {

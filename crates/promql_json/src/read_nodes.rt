@@ -24,7 +24,8 @@ ghost use Rattle.promql_json.specs.Readable.{IsNoForm, ReadableMoment};
 ghost use Rattle.promql_json.specs.ReadableBelow.{AllReadableBelow, MaybeReadableBelow, ReadableBelow, ReadableMatching};
 ghost use Rattle.promql_json.specs.declared.read_values.TheConstants.{AGGREGATORS as AGGREGATOR_IDS, OPERATORS as OPERATOR_IDS};
 ghost use Rattle.promql_json.specs.JsonFaults.{args_fault, json_fault, param_fault};
-ghost use Rattle.promql_json.specs.FormMisfits.{AsksOf, Form, MisfitAt, list_of, node as node_form, node_named};
+ghost use Rattle.promql_json.specs.FormFaults.{node as node_faults};
+ghost use Rattle.promql_json.specs.FormMisfits.{AsksOf, Form, list_of, node as node_form, node_named};
 ghost use Rattle.promql_json.specs.MembersLeft.{IsIn, IsTypeIn, IsTyped};
 ghost use Rattle.promql_json.specs.declared.from_error.Expected.TheVariants.{List as ListThere};
 ghost use Rattle.promql_json.specs.declared.from_error.FromJsonError.TheVariants as surface;
@@ -67,7 +68,7 @@ pub fn from_json(alloc: Global, value: &Value) -> Result<Expr, FromJsonError>
     ensures err { IfErr result (λ e. e ≢ surface.Memory → IsNoForm (view value.now)) }
     ensures kind { IfErr result (λ e. e ≢ surface.NotJson) }
     ensures place { IfErr result (λ e. (m : Fault) → e ≡ surface.Misfit m
-        → MisfitAt (node_form 512) (view value.now) (string_bytes m.path) m.expected) }
+        → node_faults 512 (Some (view value.now)) (string_bytes m.path) m.expected) }
 {
     Ok(read_expr(alloc, value, MAX_HEIGHT)?)
 }
@@ -83,7 +84,7 @@ pub fn from_json_text(alloc: Global, text: &str) -> Result<Expr, FromJsonError>
         → (d : Data) × (read_text text.now ≡ Some d) × IsNoForm d) }
     ensures not_json { IfErr result (λ e. e ≡ surface.NotJson → read_text text.now ≡ None) }
     ensures place { IfErr result (λ e. (m : Fault) → e ≡ surface.Misfit m
-        → (d : Data) × (read_text text.now ≡ Some d) × MisfitAt (node_form 512) d (string_bytes m.path) m.expected) }
+        → (d : Data) × (read_text text.now ≡ Some d) × node_faults 512 (Some d) (string_bytes m.path) m.expected) }
 {
     match Value::from_str(alloc, text) {
         Ok(value) => from_json(alloc, &value),

@@ -1,3 +1,4 @@
+use Rattle.promql_json.proofs.FaultsOfForms.{faults_of_nodes}
 use Rattle.promql_json.proofs.ReadForms.{err_from}
 use Rattle.promql_json.proofs.ReadableTrees.{no_form_below}
 use Rattle.promql_json.specs.FormMisfits.{node}
@@ -11,4 +12,4 @@ returns-in_err-read_expr-clause-err c =
 pub returns-in_err-read_expr-clause-place : goal.returns-in_err-read_expr-clause-place
 returns-in_err-read_expr-clause-place c =
     err_from _ _ c.from_residual.result c.from_residual.ensures.1
-    (λ e gives m is. gives.2 (node 512) _ m c.in_err-read_expr.ensures.place is)
+    (λ e gives m is. faults_of_nodes 512 _ _ _ (gives.2 (node 512) _ m c.in_err-read_expr.ensures.place is))

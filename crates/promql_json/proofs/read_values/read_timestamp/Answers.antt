@@ -17,7 +17,7 @@ returns-in_default c =
       same = tt;
       time = tt;
       err = λ at fine same. no_time _ _ at full (rw c.in_default.is-1 word) same;
-      place = λ f d time start. (one NoTimestamp, by_start_or_end f _ d _ time start (rw c.in_default.is-1 word), c.here.ensures (one NoTimestamp) _ (one_here NoTimestamp _ full));
+      place = λ f d time start. (one NoTimestamp, by_start_or_end f d _ time start (rw c.in_default.is-1 word), c.here.ensures (one NoTimestamp) _ (one_here NoTimestamp _ full));
     }
 
 pub returns-in_err-read_i64-in_default-None : goal.returns-in_err-read_i64-in_default-None
