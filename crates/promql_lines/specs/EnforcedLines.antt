@@ -1,11 +1,11 @@
 -- The line of a query with a matcher in its selectors (docs/guide/rewriting.md, "Enforcing"; docs/reference/programs.md, "One query,
 -- enforced").
-use Rattle.std.specs.Prelude.{◌≡◌, ◌⊎◌, ◌++◌, if◌then◌else◌, List, ◌∷◌, Option, None, codes, option_map}
+use Rattle.std.specs.Prelude.{◌≡◌, ◌⊎◌, ◌++◌, if◌then◌else◌, List, ◌∷◌, Option, None, Err, codes, option_map}
 use Rattle.promql_io.specs.Arguments.{is_option}
 use Rattle.promql_text.specs.Texts.{Text}
 use Rattle.promql_ast.specs.Tree.{Tree}
 use Rattle.promql_rewrite.specs.Faithful.{IsLineOf}
-use Rattle.promql_rewrite.specs.MatcherTexts.{IsEnforcedBy, IsMatcherFault, MeetsBareInfo, selector_around}
+use Rattle.promql_rewrite.specs.MatcherTexts.{IsEnforcedBy, IsMatcherText, MeetsBareInfo, selector_around}
 use Rattle.promql_run.specs.Programs.{Command}
 use Rattle.promql_report.specs.LimitOptions.{command, default_limits, limits_with}
 use Rattle.promql_report.specs.Rejecting.{IsRead}
@@ -30,7 +30,7 @@ ShowsEnforced limits t matcher line = (u : Tree) × IsEnforcedWithin limits matc
 abbrev pub IsUnenforced : Limits → Text → Tree → QueryError → Type 0
 IsUnenforced limits matcher t error.Memory = Unit {0}
 IsUnenforced limits matcher t (error.Large measured.MatcherText fault) = IsOver limits (selector_around matcher) fault
-IsUnenforced limits matcher t (error.Matcher e) = IsWithin (selector_around matcher) limits × IsMatcherFault matcher e
+IsUnenforced limits matcher t (error.Matcher e) = IsWithin (selector_around matcher) limits × IsMatcherText matcher (Err e)
 IsUnenforced limits matcher t error.Info = IsWithin (selector_around matcher) limits × MeetsBareInfo matcher t
 IsUnenforced limits matcher t _ = ⊥
 

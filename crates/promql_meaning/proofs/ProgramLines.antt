@@ -5,12 +5,12 @@ use Rattle.promql_label.specs.PlainMatchers.{PlainMatcher}
 use Rattle.promql_ast.specs.Text.{text}
 use Rattle.promql_rewrite.specs.Enforced.{IsEnforced}
 use Rattle.promql_rewrite.specs.Faithful.{Means}
-use Rattle.promql_rewrite.specs.MatcherTexts.{IsEnforceable}
+use Rattle.promql_rewrite.specs.MatcherTexts.{IsMatcherText}
 use Rattle.promql_json.specs.declared.error.JsonError.{JsonError}
 use Rattle.promql_span.specs.declared.limits.Limits.{Limits}
 use Rattle.promql_lines.specs.EnforcedLines.{IsEnforcedLine}
 
-pub line_is_enforced : (limits : Limits) (query matcher line : Text) → IsEnforcedLine limits query matcher line → (c : PlainMatcher) × IsEnforceable matcher c × IsEnforced query c line
+pub line_is_enforced : (limits : Limits) (query matcher line : Text) → IsEnforcedLine limits query matcher line → (c : PlainMatcher) × IsMatcherText matcher (Ok c) × IsEnforced query c line
 line_is_enforced limits query matcher line h =
     let shown = h.2 in
     let by = shown.1.1 in (

@@ -13,7 +13,7 @@ ghost use Rattle.promql_syntax.specs.Asking.{Asked};
 ghost use Rattle.promql_rewrite.specs.Enforced.{IsEnforced};
 ghost use Rattle.promql_rewrite.specs.Enforcing.{enforced, has_bare_info};
 ghost use Rattle.promql_rewrite.specs.Mapping.{KindedSelector, outline, selectors_of};
-ghost use Rattle.promql_rewrite.specs.MatcherTexts.{IsEnforceable};
+ghost use Rattle.promql_rewrite.specs.MatcherTexts.{IsMatcherText};
 ghost use Rattle.promql_rewrite.specs.Parenthesizing.{parenthesized};
 ghost use Rattle.promql_rewrite.specs.Renaming.{of_label, of_metric, renamed};
 ghost use Rattle.promql_lines.specs.EnforcedLines.{IsEnforcedLine};
@@ -103,7 +103,7 @@ pub fn programs_keep_what_is_meant()
         → HasTree g query p.1.0 → (body : Text) × (printed ≡ body ++ 10 ∷ [])
         × ((u : Tree) × HasTree g body u × ((s : Store) → seen s u ≡ seen s p.1.0)) }
     ensures enforce { (limits : Limits) (query matcher line : Text) → IsEnforcedLine limits query matcher line
-        → (c : PlainMatcher) × IsEnforceable matcher c × IsEnforced query c line }
+        → (c : PlainMatcher) × IsMatcherText matcher (Ok c) × IsEnforced query c line }
 {
     promql_syntax::laws::laid_reads_back();
 }

@@ -1,3 +1,6 @@
+pub mod AddedChildren
+pub mod ClashingLabels
+pub mod NegatedOperands
 pub mod enforcement
 pub mod mapped
 pub mod names

@@ -1,3 +1,4 @@
+pub mod AddedByNode
 pub mod AddedParens
 pub mod Answered
 pub mod CheckedNodes
@@ -22,5 +23,6 @@ pub mod PrintableTrees
 pub mod Reasons
 pub mod Renaming
 pub mod Renamings
+pub mod SecondMatchers
 pub mod Selecting
 pub mod Throughout

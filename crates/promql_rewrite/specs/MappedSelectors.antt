@@ -1,9 +1,10 @@
 -- The selectors of a tree by recursion, and what mapping along them did, by its result (private: nothing rests on believing it).
-use Rattle.std.specs.Prelude.{ℕ, zero, suc, if◌then◌else◌, List, [], ◌∷◌, ◌++◌, Result, Ok, Err}
+use Rattle.std.specs.Prelude.{◌≡◌, ◌⊎◌, ℕ, zero, suc, if◌then◌else◌, List, [], ◌∷◌, ◌++◌, Result, Ok, Err}
 use Rattle.promql_kind.specs.Functions.{Signature}
+use Rattle.promql_ast.specs.Selectors.{Selector}
 use Rattle.promql_ast.specs.Tree.{Tree, aggregate, unary, binary, paren, subquery, vector, matrix, call, extension, MaybeTree, absent, present, Trees, no_trees, first_tree}
 use Rattle.promql_rewrite.specs.Enforcing.{is_info}
-use Rattle.promql_rewrite.specs.Mapping.{Fails, KindedSelector, MapGives, Maps}
+use Rattle.promql_rewrite.specs.Mapping.{KindedSelector, MapGives}
 use Rattle.promql_rewrite.specs.declared.mapping.SelectorKind.{SelectorKind}
 use Rattle.promql_rewrite.specs.declared.mapping.SelectorKind.TheVariants.{DataLabels}
 
@@ -39,6 +40,20 @@ abbrev pub kind_at : ℕ → SelectorKind → SelectorKind → SelectorKind
 kind_at zero k others = k
 kind_at (suc i) k others = others
 
+module _ {S E : Type 0} (gives : MapGives S E) where
+  -- One call for each selector, in order, each of which went well and left the selector of the second list; the mapper was s and
+  -- is t.
+  abbrev pub MapsAll : List KindedSelector → List KindedSelector → S → S → Type 0
+  MapsAll [] [] s t = t ≡ s
+  MapsAll (x ∷ xs) (y ∷ ys) s t = (y.0 ≡ x.0) × ((u : S) × (gives s x.0 x.1 (Ok tt) u y.1 × MapsAll xs ys u t))
+  MapsAll _ _ s t = ⊥
+
+  -- one call for each selector, in order, up to one that failed with this error; the mapper was s and is t
+  abbrev pub Fails : List KindedSelector → E → S → S → Type 0
+  Fails [] e s t = ⊥
+  Fails (x ∷ xs) e s t = ((y : Selector) × gives s x.0 x.1 (Err e) t y)
+      ⊎ ((y : Selector) × ((u : S) × (gives s x.0 x.1 (Ok tt) u y × Fails xs e u t)))
+
 abbrev pub MapsOrFails : {S E : Type 0} → MapGives S E → List KindedSelector → List KindedSelector → S → Result (Unit {0}) E → S → Type 0
-MapsOrFails gives xs ys s (Ok x) t = Maps gives xs ys s t
+MapsOrFails gives xs ys s (Ok x) t = MapsAll gives xs ys s t
 MapsOrFails gives xs ys s (Err e) t = Fails gives xs e s t

@@ -2,17 +2,19 @@
 -- "Trees of your own").
 use Rattle.std.specs.Prelude.{◌≡◌, true, false, Some, None, IfSome}
 use Rattle.promql_token.specs.Ids.{is_aggregator_with_param, is_set_operator}
+use Rattle.promql_token.specs.declared.ids.TheConstants.{T_MUL}
 use Rattle.promql_grammar.specs.Grammar.{FitsLeft}
 use Rattle.promql_grammar.specs.Symbols.{token_kind}
 use Rattle.promql_grammar.specs.declared.token_kinds.TokenKind.TheVariants as kind
 use Rattle.promql_kind.specs.Modifiers.{many_to_many, matching, is_grouping}
 use Rattle.promql_ast.specs.Selectors.{selector}
-use Rattle.promql_ast.specs.Tree.{Tree, aggregate, unary, binary, subquery, vector, matrix, extension, absent, present}
-use Rattle.promql_rewrite.specs.PrintableConditions.{AreGrouped, IsNegated, IsRightSide, PrintableOffset, PrintableTime, openness}
+use Rattle.promql_ast.specs.Tree.{Tree, aggregate, unary, binary, subquery, number, vector, matrix, extension, absent, present}
+use Rattle.promql_rewrite.specs.PrintableConditions.{AreGrouped, IsRightSide, PrintableOffset, PrintableTime, openness}
 use Rattle.promql_rewrite.specs.declared.printable.NotPrintable.{NotPrintable}
 use Rattle.promql_rewrite.specs.declared.printable.NotPrintable.TheVariants as reason
 
--- that this reason is none against the node, or against an operand of it in its place
+-- that this reason is none against the node, or against an operand of it in its place; a minus binds as `*` does, and a number
+-- would take it as its sign
 abbrev pub Obeys : NotPrintable → Tree → Type 0
 Obeys reason.Parameter (aggregate op e absent m) = is_aggregator_with_param op ≡ false
 Obeys reason.Parameter (aggregate op e (present p) m) = is_aggregator_with_param op ≡ true
@@ -21,7 +23,8 @@ Obeys reason.Grouping (binary op l r (Some (matching card None return_bool value
 Obeys reason.Cardinality (binary op l r (Some (matching card clause return_bool values))) = card ≡ many_to_many → is_set_operator op ≡ true
 Obeys reason.LeftSide (binary op l r m) = FitsLeft op (openness l)
 Obeys reason.RightSide (binary op l r m) = IsRightSide op r
-Obeys reason.Operand (unary e) = IsNegated e
+Obeys reason.Operand (unary (number n)) = ⊥
+Obeys reason.Operand (unary e) = IsRightSide T_MUL e
 Obeys reason.Subqueried (subquery e offset at range step) = openness e ≡ 7
 Obeys reason.Groups (vector (selector name matchers offset at)) = AreGrouped matchers
 Obeys reason.Groups (matrix (selector name matchers offset at) range mode) = AreGrouped matchers

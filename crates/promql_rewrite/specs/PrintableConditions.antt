@@ -52,15 +52,17 @@ abbrev pub IsRightSide : ℕ → Tree → Type 0
 IsRightSide op (binary inner l r m) = (precedence op < precedence inner) ⊎ ((op ≡ T_POW) × (inner ≡ T_POW))
 IsRightSide op t = Unit {0}
 
--- after a minus: of binary trees only powers, and no number, which would take the sign
-abbrev pub IsNegated : Tree → Type 0
-IsNegated (binary op l r m) = op ≡ T_POW
-IsNegated (number n) = ⊥
-IsNegated t = Unit {0}
-
 -- ---- or-groups
 
 -- there are none, or two at least, none of them empty, and no matcher beside them
 abbrev pub AreGrouped : PlainMatchers → Type 0
 AreGrouped (plain_matchers cs []) = Unit {0}
 AreGrouped (plain_matchers cs (g ∷ gs)) = (cs ≡ []) × (gs ≢ []) × AllByRecursion (λ g. g ≢ []) (g ∷ gs)
+
+-- ---- an operand of a minus. Private: nothing rests on believing it
+
+-- after a minus: of binary trees only powers, and no number, which would take the sign
+abbrev pub IsNegated : Tree → Type 0
+IsNegated (binary op l r m) = op ≡ T_POW
+IsNegated (number n) = ⊥
+IsNegated t = Unit {0}

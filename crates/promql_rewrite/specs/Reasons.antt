@@ -1,11 +1,12 @@
 -- Why a tree is not printable (docs/guide/rewriting.md, "Trees of your own").
-use Rattle.std.specs.Prelude.{◌≢◌, Err}
+use Rattle.std.specs.Prelude.{◌≡◌, ◌≢◌, List, ◌∷◌, ◌++◌, Err}
+use Rattle.std.specs.List.{AllByRecursion}
 use Rattle.promql_ast.specs.Text.{text}
 use Rattle.promql_ast.specs.Tree.{Tree}
 use Rattle.promql_syntax.specs.ParseAnswers.{IsAnswerTo, plain_error_of}
 use Rattle.promql_syntax.specs.declared.parser.ParseError.TheVariants as parse
 use Rattle.promql_rewrite.specs.Collecting.{nodes_of}
-use Rattle.promql_rewrite.specs.Everywhere.{Everywhere, FirstWrong}
+use Rattle.promql_rewrite.specs.Everywhere.{Everywhere}
 use Rattle.promql_rewrite.specs.Faithful.{MeansOther}
 use Rattle.promql_rewrite.specs.NodeRules.{Obeys}
 use Rattle.promql_rewrite.specs.declared.printable.NotPrintable.{NotPrintable}
@@ -19,4 +20,5 @@ IsFitting t = (r : NotPrintable) → Obeys r t
 abbrev pub IsReason : NotPrintable → Tree → Type 0
 IsReason (reason.Rejected e) t = Everywhere IsFitting t × IsAnswerTo (text t) (Err (plain_error_of e)) × (e ≢ parse.Memory)
 IsReason reason.OtherTree t = Everywhere IsFitting t × MeansOther (text t) t
-IsReason r t = FirstWrong IsFitting (λ n. ¬ (Obeys r n)) (nodes_of t)
+IsReason r t =
+    (before rest : List Tree) × (node : Tree) × (nodes_of t ≡ before ++ node ∷ rest) × AllByRecursion IsFitting before × ¬ (Obeys r node)

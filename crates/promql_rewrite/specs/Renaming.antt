@@ -62,15 +62,9 @@ module _ (r : Renaming) where
 
 -- ---- where two labels would become one
 
--- the labels of a node's matchers, or after its `by`, `without`, `on`, `ignoring`, `group_left` and `group_right`
-abbrev pub listed_labels : Tree → List Text
-listed_labels (vector (selector name cs offset at)) = map name_of (every cs)
-listed_labels (matrix (selector name cs offset at) range mode) = map name_of (every cs)
-listed_labels t = own_labels t
-
--- the labels are two, and a node lists both
+-- the labels are two, and a node names both
 abbrev pub clashes : Text → Text → Tree → Bool
-clashes from to t = not (bytes_eq from to) && list_any (λ n. is_among (listed_labels n) from && is_among (listed_labels n) to) (nodes_of t)
+clashes from to t = not (bytes_eq from to) && list_any (λ n. is_among (own_labels n) from && is_among (own_labels n) to) (nodes_of t)
 
 abbrev pub is_metric_label : Text → Bool
 is_metric_label l = bytes_eq l (codes "__name__")
@@ -87,8 +81,17 @@ is_name text = is_name_in text (tokens text)
 
 -- ---- of one node, and of parts of trees. Private: nothing rests on believing it
 
+-- the labels of a node's matchers, or after its `by`, `without`, `on`, `ignoring`, `group_left` and `group_right`
+abbrev pub listed_labels : Tree → List Text
+listed_labels (vector (selector name cs offset at)) = map name_of (every cs)
+listed_labels (matrix (selector name cs offset at) range mode) = map name_of (every cs)
+listed_labels t = own_labels t
+
 abbrev pub lists_both : Text → Text → Tree → Bool
 lists_both from to t = is_among (listed_labels t) from && is_among (listed_labels t) to
+
+abbrev pub listed_clashes : Text → Text → Tree → Bool
+listed_clashes from to t = not (bytes_eq from to) && list_any (lists_both from to) (nodes_of t)
 
 module _ (r : Renaming) where
   abbrev pub maybe_renamed : MaybeTree → MaybeTree

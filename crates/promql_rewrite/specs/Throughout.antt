@@ -1,5 +1,5 @@
 -- What holds at each node of a tree, and which node is the first that is wrong, by recursion. Private: nothing rests on believing it.
-use Rattle.std.specs.Prelude.{◌⊎◌}
+use Rattle.std.specs.Prelude.{◌⊎◌, List, [], ◌∷◌}
 use Rattle.promql_ast.specs.Tree.{Tree, aggregate, unary, binary, paren, subquery, number, string, vector, matrix, call, extension, MaybeTree, absent, present, Trees, no_trees, first_tree}
 
 module _ (P : Tree → Type 0) where
@@ -53,3 +53,8 @@ module _ (Fine Wrong : Tree → Type 0) where
     pub FirstWithinAll : Trees → Type 0
     FirstWithinAll no_trees = ⊥
     FirstWithinAll (first_tree e es) = FirstWithin e ⊎ (Throughout Fine e × FirstWithinAll es)
+
+-- a node of the list is wrong, and all before it are fine
+abbrev pub FirstWrong : (Tree → Type 0) → (Tree → Type 0) → List Tree → Type 0
+FirstWrong Fine Wrong [] = ⊥
+FirstWrong Fine Wrong (t ∷ ts) = Wrong t ⊎ (Fine t × FirstWrong Fine Wrong ts)

@@ -1,14 +1,15 @@
 //! A matcher in every selector: docs/guide/rewriting.md, "Enforcing".
 
-ghost use Rattle.std.specs.Prelude.{◌≡◌, ◌≢◌, ◌↔◌, Err, IfErr, IfOk, IsErrOf, OnOk, codes, false, map, string_bytes, true};
+ghost use Rattle.std.specs.Prelude.{◌≡◌, ◌≢◌, ◌↔◌, ◌⊎◌, Err, IfErr, IfOk, IsErrOf, Ok, OnOk, codes, false, map, string_bytes, true};
 ghost use Rattle.std.specs.List.{list_any};
 ghost use Rattle.promql_ast.specs.Same.{matcher_eq};
+ghost use Rattle.promql_ast.specs.Tree.{Tree};
 ghost use Rattle.promql_ast.specs.View.{tree_of};
 ghost use Rattle.promql_label.specs.MatcherViews.{plain_matcher_of, plain_matchers_of};
 ghost use Rattle.promql_label.specs.PlainMatchers.{name_of};
 ghost use Rattle.promql_syntax.specs.ParseAnswers.{IsAnswerTo, plain_error_of};
 ghost use Rattle.promql_syntax.specs.declared.parser.ParseError.{ParseError};
-ghost use Rattle.promql_rewrite.specs.Enforced.{HasBareInfo, HasEnforced, IsEnforced, IsOfQuery, IsOfTrees};
+ghost use Rattle.promql_rewrite.specs.Enforced.{HasEnforced, IsEnforced};
 ghost use Rattle.promql_rewrite.specs.EnforceErrors.{IsOfEnforced};
 ghost use Rattle.promql_rewrite.specs.Faithful.{IsLineOf, MeansOther};
 ghost use Rattle.promql_ast.specs.Text.{text as line_text};
@@ -101,7 +102,8 @@ pub fn enforce(alloc: Global, expr: Expr, matcher: &Matcher) -> Result<Expr, Enf
         ↔ ((name_of (plain_matcher_of matcher.now) ≢ codes "__name__")
         × (has_bare_info (tree_of expr) ≡ true)) }
     ensures limited { IfOk result (λ _. has_bare_info (tree_of expr) ≡ false) }
-    ensures errors { IfErr result IsOfTrees }
+    ensures errors { IfErr result (λ e. (e ≡ EnforceError.Memory) ⊎ (e ≡ EnforceError.MetricName)
+        ⊎ (e ≡ EnforceError.Info)) }
 {
     if matcher.name.as_str() == METRIC_NAME {
         drop(expr);
@@ -136,14 +138,16 @@ pub fn enforce_query(alloc: Global, query: &str, matcher: &Matcher) -> Result<St
         ↔ (name_of (plain_matcher_of matcher.now) ≡ codes "__name__") }
     ensures parse { (e : ParseError) → IsErrOf result (EnforceError.Parse e)
         → IsAnswerTo query.now (Err (plain_error_of e)) × (e ≢ ParseError.Memory) }
-    ensures info { IsErrOf result EnforceError.Info → HasBareInfo query.now }
+    ensures info { IsErrOf result EnforceError.Info
+        → (t : Tree) × IsAnswerTo query.now (Ok t) × (has_bare_info t ≡ true) }
     ensures rejected { (e : ParseError)
         → IsErrOf result (EnforceError.Unfaithful (NotFaithful.Rejected e))
         → HasEnforced query.now (plain_matcher_of matcher.now)
-        (λ u. IsAnswerTo (line_text u) (Err (plain_error_of e))) }
+        (λ u. IsAnswerTo (line_text u) (Err (plain_error_of e))) × (e ≢ ParseError.Memory) }
     ensures other { IsErrOf result (EnforceError.Unfaithful NotFaithful.OtherTree)
         → HasEnforced query.now (plain_matcher_of matcher.now) (λ u. MeansOther (line_text u) u) }
-    ensures errors { IfErr result IsOfQuery }
+    ensures no_memory { ¬ (IsErrOf result (EnforceError.Unfaithful NotFaithful.Memory)) }
+    ensures no_indent { ¬ (IsErrOf result (EnforceError.Unfaithful NotFaithful.IndentTooWide)) }
 {
     if matcher.name.as_str() == METRIC_NAME {
         return Err(EnforceError::MetricName);

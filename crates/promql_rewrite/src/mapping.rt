@@ -1,11 +1,11 @@
 //! Selectors that a mapper changes: docs/guide/rewriting.md, "Mapping selectors".
 
-ghost use Rattle.std.specs.Prelude.{◌≡◌, IfErr, IfOk, OnOk, Result, map};
+ghost use Rattle.std.specs.Prelude.{◌≡◌, Err, IfErr, IfOk, List, Ok, OnOk, Result, map};
 ghost use Rattle.promql_kind.specs.Functions.{signature_of};
 ghost use Rattle.promql_ast.specs.Selectors.{Selector};
 ghost use Rattle.promql_ast.specs.View.{aggregate_tree, binary_tree, call_tree, children_of, extension_tree, selector_of, tree_of, trees_of};
 ghost use Rattle.promql_rewrite.specs.MappedSelectors.{MapsOrFails, arg_selectors, kind_after, kind_at, selectors_in};
-ghost use Rattle.promql_rewrite.specs.Mapping.{Fails, KindedSelector, Maps, MapsBy, outline, selectors_of};
+ghost use Rattle.promql_rewrite.specs.Mapping.{KindedSelector, Maps, MapsBy, outline, selectors_of};
 ghost use Rattle.promql_rewrite.specs.declared.mapping.SelectorKind.{SelectorKind};
 
 use crate::bare_info::is_info;
@@ -59,15 +59,15 @@ pub fn map_selectors<V: SelectorMapper>(
     mapper: &mut V,
 ) -> Result<Expr, V::Error>
     ensures selectors { IfOk result (λ e. Maps V.map_gives
-        (selectors_of (tree_of expr)) (selectors_of (tree_of e)) mapper.old mapper.new) }
+        (selectors_of (tree_of expr)) (selectors_of (tree_of e)) mapper.old (Ok tt) mapper.new) }
     ensures outline { IfOk result (λ e. outline (tree_of e) ≡ outline (tree_of expr)) }
     ensures by_function { IfOk result (λ e. (f : SelectorKind → Selector → Selector)
         → MapsBy V.map_gives f → selectors_of (tree_of e)
         ≡ map (λ (x : KindedSelector). (x.0, f x.0 x.1)) (selectors_of (tree_of expr))) }
     ensures unchanged { IfOk result (λ e.
         MapsBy V.map_gives (λ _ s. s) → tree_of e ≡ tree_of expr) }
-    ensures fails { IfErr result (λ error. Fails V.map_gives
-        (selectors_of (tree_of expr)) error mapper.old mapper.new) }
+    ensures fails { IfErr result (λ error. (left : List KindedSelector)
+        × Maps V.map_gives (selectors_of (tree_of expr)) left mapper.old (Err error) mapper.new) }
 {
     let mut expr = expr;
     match map_expr(alloc, &mut expr, SelectorKind::Series, mapper) {

@@ -1,10 +1,11 @@
 //! Matchers that are given as texts: docs/guide/rewriting.md, "Matchers from texts".
 
-ghost use Rattle.std.specs.Prelude.{◌≡◌, ◌≢◌, IfErr, IfOk, codes, option_map, string_bytes};
+ghost use Rattle.std.specs.Prelude.{◌≡◌, ◌≢◌, Err, IfErr, IfOk, IsErrOf, Ok, codes, option_map, string_bytes};
 ghost use Rattle.promql_ast.specs.View.{tree_of};
 ghost use Rattle.promql_label.specs.MatcherViews.{plain_matcher_of};
 ghost use Rattle.promql_label.specs.PlainMatchers.{name_of};
-ghost use Rattle.promql_rewrite.specs.MatcherTexts.{HasMatcherAfter, IsCopyFault, IsEnforceFault, IsEnforcedBy, IsMatcherFault, IsMatcherText, IsSecondMatcher, selector_around};
+ghost use Rattle.promql_rewrite.specs.MatcherTexts.{IsEnforcedBy, IsMatcherText, MeetsBareInfo, selector_around};
+ghost use Rattle.promql_rewrite.specs.SecondMatchers.{HasMatcherAfter, IsCopyFault, IsSecondMatcher};
 
 use crate::enforcing::{EnforceError, enforce};
 use promql_ast::Expr;
@@ -90,9 +91,9 @@ fn second_matcher(expr: &Expr) -> Option<&Matcher>
 /// `NotAMatcher` where the text is not one matcher: several of them, none, or no such text at all; `MetricName` where it is one
 /// of the label `__name__`; `Memory` where an allocation failed.
 pub fn read_matcher(alloc: Global, text: &str) -> Result<Matcher, MatcherError>
-    ensures ok { IfOk result (λ m. IsMatcherText text.now (plain_matcher_of m)) }
+    ensures ok { IfOk result (λ m. IsMatcherText text.now (Ok (plain_matcher_of m))) }
     ensures name { IfOk result (λ m. name_of (plain_matcher_of m) ≢ codes "__name__") }
-    ensures errors { IfErr result (λ e. e ≢ MatcherError.Memory → IsMatcherFault text.now e) }
+    ensures errors { IfErr result (λ e. e ≢ MatcherError.Memory → IsMatcherText text.now (Err e)) }
 {
     let selector = selector_text(alloc, text)?;
     let expr = match parse(alloc, selector.as_str()) {
@@ -128,7 +129,8 @@ fn copied_matcher(alloc: Global, expr: &Expr) -> Result<Matcher, MatcherError>
 /// argument; `Memory` where an allocation failed.
 pub fn enforce_text(alloc: Global, expr: Expr, text: &str) -> Result<Expr, EnforceTextError>
     ensures ok { IfOk result (λ e. IsEnforcedBy text.now (tree_of expr) (tree_of e)) }
-    ensures errors { IfErr result (IsEnforceFault text.now (tree_of expr)) }
+    ensures matcher { (e : MatcherError) → IsErrOf result (EnforceTextError.Matcher e) → IsMatcherText text.now (Err e) }
+    ensures info { IsErrOf result EnforceTextError.Info → MeetsBareInfo text.now (tree_of expr) }
 {
     let matcher = match read_matcher(alloc, text) {
         Ok(matcher) => matcher,

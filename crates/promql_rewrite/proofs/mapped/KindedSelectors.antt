@@ -1,11 +1,16 @@
 -- The selectors of a tree, by the fold, are those by recursion.
 use Rattle.std.proofs.Common.{◌≡◌, refl, List, [], ◌++◌}
+use Rattle.std.specs.Prelude.{option_map, option_to_list}
 use Rattle.promql_ast.specs.Fold.{within, maybe_within, all_within}
 use Rattle.promql_ast.specs.Tree.{Tree, aggregate, unary, binary, paren, subquery, number, string, vector, matrix, call, extension, MaybeTree, absent, present, Trees, no_trees, first_tree}
+use Rattle.promql_rewrite.specs.Collecting.{own_selector}
 use Rattle.promql_rewrite.specs.MappedSelectors.{arg_selectors, kind_after, param_selectors, selectors_in}
-use Rattle.promql_rewrite.specs.Mapping.{KindedSelector, kind_below, own_kinded, selectors_of}
+use Rattle.promql_rewrite.specs.Mapping.{KindedSelector, kind_below, selectors_of}
 use Rattle.promql_rewrite.specs.declared.mapping.SelectorKind.{SelectorKind}
 use Rattle.promql_rewrite.specs.declared.mapping.SelectorKind.TheVariants.{Series}
+
+abbrev own_kinded : SelectorKind → Tree → List KindedSelector
+own_kinded k t = option_to_list (option_map (λ s. (k, s.0)) (own_selector t))
 
 abbrev below : Tree → SelectorKind → SelectorKind → List KindedSelector
 below = within (λ k others. []) (λ first rest k others. first k others ++ rest others others) (λ t inner k others. own_kinded k t ++ inner k (kind_below t k))

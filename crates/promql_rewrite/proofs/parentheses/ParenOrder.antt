@@ -1,7 +1,7 @@
 -- Of two trees of which each adds parentheses to the other neither adds any.
 use Rattle.std.proofs.Common.{◌≡◌, ◌+◌, ◌≤◌, ℕ, refl, ap, arith}
 use Rattle.promql_ast.specs.Tree.{Tree, aggregate, unary, binary, paren, subquery, number, string, vector, matrix, call, extension, MaybeTree, absent, present, Trees, no_trees, first_tree}
-use Rattle.promql_rewrite.specs.AddedParens.{AddsParens, same, added, in_aggregate, in_unary, in_binary, in_paren, in_subquery, in_call, in_extension, MaybeAddsParens, neither, both, AllAddParens, no_more, one_more}
+use Rattle.promql_rewrite.specs.AddedByNode.{AddsByNode, same, added, in_aggregate, in_unary, in_binary, in_paren, in_subquery, in_call, in_extension, MaybeAddsByNode, neither, both, AllAddByNode, no_more, one_more}
 use Rattle.promql_rewrite.specs.Throughout.{Throughout}
 use Rattle.promql_rewrite.specs.Parenthesizing.{parenthesized}
 use Rattle.promql_rewrite.specs.PrintableNodes.{IsNodePlaced}
@@ -32,7 +32,7 @@ abbrev mutual
   all_parens (first_tree t ts) = parens t + all_parens ts
 
 mutual
-  more : (t u : Tree) → AddsParens t u → parens t ≤ parens u
+  more : (t u : Tree) → AddsByNode t u → parens t ≤ parens u
   more t u same = omega arith
   more t u (added {u = v} a) = omega (arith, more t v a)
   more t u (in_aggregate {e = e} {f = f} {p = p} {q = q} a b) = omega (arith, more e f a, maybe_more p q b)
@@ -43,17 +43,17 @@ mutual
   more t u (in_call {ts = ts} {us = us} a) = all_more ts us a
   more t u (in_extension {ts = ts} {us = us} a) = all_more ts us a
 
-  maybe_more : (p q : MaybeTree) → MaybeAddsParens p q → maybe_parens p ≤ maybe_parens q
+  maybe_more : (p q : MaybeTree) → MaybeAddsByNode p q → maybe_parens p ≤ maybe_parens q
   maybe_more p q neither = omega arith
   maybe_more p q (both {e = e} {f = f} a) = more e f a
 
-  all_more : (ts us : Trees) → AllAddParens ts us → all_parens ts ≤ all_parens us
+  all_more : (ts us : Trees) → AllAddByNode ts us → all_parens ts ≤ all_parens us
   all_more ts us no_more = omega arith
   all_more ts us (one_more {t = t} {u = u} {ts = rest} {us = others} a b) = omega (arith, more t u a, all_more rest others b)
 
 mutual
   -- a tree that adds parentheses, and has no more of them, is the tree
-  no_fewer : (t u : Tree) → AddsParens t u → parens u ≤ parens t → t ≡ u
+  no_fewer : (t u : Tree) → AddsByNode t u → parens u ≤ parens t → t ≡ u
   no_fewer t u same h = refl
   no_fewer t u (added {u = v} a) h = absurd (omega (arith, more t v a, h))
   no_fewer t u (in_aggregate {op = op} {e = e} {f = f} {p = p} {q = q} {m = m} a b) h =
@@ -71,18 +71,18 @@ mutual
   no_fewer t u (in_call {f = f} {ts = ts} {us = us} a) h = ap (call f) (all_no_fewer ts us a h)
   no_fewer t u (in_extension {name = name} {gives = gives} {ts = ts} {us = us} a) h = ap (extension name gives) (all_no_fewer ts us a h)
 
-  maybe_no_fewer : (p q : MaybeTree) → MaybeAddsParens p q → maybe_parens q ≤ maybe_parens p → p ≡ q
+  maybe_no_fewer : (p q : MaybeTree) → MaybeAddsByNode p q → maybe_parens q ≤ maybe_parens p → p ≡ q
   maybe_no_fewer p q neither h = refl
   maybe_no_fewer p q (both {e = e} {f = f} a) h = ap present (no_fewer e f a h)
 
-  all_no_fewer : (ts us : Trees) → AllAddParens ts us → all_parens us ≤ all_parens ts → ts ≡ us
+  all_no_fewer : (ts us : Trees) → AllAddByNode ts us → all_parens us ≤ all_parens ts → ts ≡ us
   all_no_fewer ts us no_more h = refl
   all_no_fewer ts us (one_more {t = t} {u = u} {ts = rest} {us = others} a b) h =
       let x = no_fewer t u a (omega (arith, all_more rest others b, h)) in
       let y = all_no_fewer rest others b (omega (arith, more t u a, h)) in
       λ i. first_tree (x i) (y i)
 
-pub only : (t u : Tree) → AddsParens t u → Throughout IsNodePlaced u → ((v : Tree) → AddsParens t v → Throughout IsNodePlaced v → AddsParens u v) → u ≡ parenthesized t
+pub only : (t u : Tree) → AddsByNode t u → Throughout IsNodePlaced u → ((v : Tree) → AddsByNode t v → Throughout IsNodePlaced v → AddsByNode u v) → u ≡ parenthesized t
 only t u a placed least =
     let up = least (parenthesized t) (adds t) (well_placed t) in
     let down = fewest t u a placed in

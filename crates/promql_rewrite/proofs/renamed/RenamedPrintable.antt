@@ -15,7 +15,7 @@ use Rattle.promql_rewrite.specs.Answered.{IsAnswered}
 use Rattle.promql_rewrite.specs.PrintableConditions.{IsNegated, IsRightSide, PrintableName, openness}
 use Rattle.promql_rewrite.specs.PrintableNodes.{AllAnswered, AllPrintableNodes, FollowsLabels, GroupsAnswered, IsSubqueried, MaybePrintableNodes, NodesArePrintable, PrintableMatchers, PrintableModifier, PrintableNodes, PrintableSelector, has_param}
 use Rattle.promql_rewrite.specs.PrintableTrees.{all_printed_height, maybe_printed_height, printed_height}
-use Rattle.promql_rewrite.specs.Renaming.{Renaming, of_label, of_metric, all_renamed, clashes, is_name, maybe_renamed, renamed, renamed_cardinality, renamed_clause, renamed_matcher, renamed_matchers, renamed_matching, renamed_name, renamed_selector}
+use Rattle.promql_rewrite.specs.Renaming.{Renaming, of_label, of_metric, all_renamed, listed_clashes, is_name, maybe_renamed, renamed, renamed_cardinality, renamed_clause, renamed_matcher, renamed_matchers, renamed_matching, renamed_name, renamed_selector}
 use Rattle.promql_rewrite.proofs.renamed.RenamedTrees.{label_typed, metric_typed}
 use Rattle.promql_rewrite.proofs.names.SomeNames.{named_word, some_name}
 
@@ -150,7 +150,7 @@ module _ (from to : Text) (g : Text → Answer) where
   label_answered (plain_matcher (matches w) name value) h = h
   label_answered (plain_matcher (matches_not w) name value) h = h
 
-  pub label_printable : (t : Tree) → from ≢ codes "__name__" → to ≢ codes "__name__" → clashes from to t ≡ false → NodesArePrintable g t → NodesArePrintable g (renamed (of_label from to) t)
+  pub label_printable : (t : Tree) → from ≢ codes "__name__" → to ≢ codes "__name__" → listed_clashes from to t ≡ false → NodesArePrintable g t → NodesArePrintable g (renamed (of_label from to) t)
   label_printable t old new apart h = printable_renamed (of_label from to) g (λ o k. k) label_answered t (label_typed from to t old new apart h.typed) h
 
   -- ---- a metric

@@ -7,7 +7,7 @@ use Rattle.promql_text.specs.Texts.{Text}
 use Rattle.promql_ast.specs.Tree.{Tree}
 use Rattle.promql_ast.specs.Typed.{Typed}
 use Rattle.promql_rewrite.specs.Collecting.{nodes_of}
-use Rattle.promql_rewrite.specs.Renaming.{of_label, of_metric, clashes, lists_both, renamed}
+use Rattle.promql_rewrite.specs.Renaming.{of_label, of_metric, listed_clashes, lists_both, renamed}
 use Rattle.promql_rewrite.proofs.renamed.RenamedAlike.{label_itself}
 use Rattle.promql_rewrite.proofs.renamed.RenamedSelectors.{label_apart, label_selector, metric_apart, metric_selector}
 use Rattle.promql_rewrite.proofs.renamed.RenamedTyped.{typed_renamed}
@@ -17,7 +17,7 @@ none_passes [] = refl
 none_passes (t ∷ ts) = none_passes ts
 
 module _ (from to : Text) (t : Tree) where
-  pub label_typed : from ≢ codes "__name__" → to ≢ codes "__name__" → clashes from to t ≡ false → Typed t → Typed (renamed (of_label from to) t)
+  pub label_typed : from ≢ codes "__name__" → to ≢ codes "__name__" → listed_clashes from to t ≡ false → Typed t → Typed (renamed (of_label from to) t)
   label_typed old new apart h = go (bytes_eq from to) refl apart
     where
       go : (b : Bool) → bytes_eq from to ≡ b → not b && list_any (lists_both from to) (nodes_of t) ≡ false → Typed (renamed (of_label from to) t)

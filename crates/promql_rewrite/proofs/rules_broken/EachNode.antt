@@ -3,8 +3,8 @@ use Rattle.std.proofs.Common.{◌⊎◌, inl, inr, List, [], ◌∷◌, ◌++◌
 use Rattle.std.specs.List.{AllByRecursion}
 use Rattle.promql_ast.specs.Tree.{Tree, aggregate, unary, binary, paren, subquery, number, string, vector, matrix, call, extension, MaybeTree, absent, present, Trees, no_trees, first_tree}
 use Rattle.promql_rewrite.specs.Collecting.{all_nodes, maybe_nodes, nodes_of, nodes_within}
-use Rattle.promql_rewrite.specs.Everywhere.{Everywhere, FirstWrong}
-use Rattle.promql_rewrite.specs.Throughout.{FirstWithin, FirstWithinAll, FirstWithinMaybe, Throughout, ThroughoutAll, ThroughoutMaybe}
+use Rattle.promql_rewrite.specs.Everywhere.{Everywhere}
+use Rattle.promql_rewrite.specs.Throughout.{FirstWithin, FirstWithinAll, FirstWithinMaybe, FirstWrong, Throughout, ThroughoutAll, ThroughoutMaybe}
 
 -- ---- at each node
 

@@ -9,18 +9,19 @@ use Rattle.promql_rewrite.specs.PrintableNodes.{HasNodeParts, IsNodePlaced}
 use Rattle.promql_rewrite.specs.PrintableTrees.{HasParts, IsPlaced}
 use Rattle.promql_rewrite.specs.Throughout.{Throughout}
 use Rattle.promql_rewrite.proofs.readback.ClosedTrees.{closed, subqueried}
+use Rattle.promql_rewrite.proofs.NegatedOperands.{negated_operand, operand_negated}
 use Rattle.promql_rewrite.proofs.rules_broken.EachNode.{imply, listed, throughout}
 
 -- ---- places
 
 obeys_places : (t : Tree) → IsNodePlaced t → IsPlaced t
-obeys_places (unary e) h = (tt, tt, h, tt)
+obeys_places (unary e) h = (tt, tt, negated_operand e h, tt)
 obeys_places (binary op l r m) h = (h.0, h.1, tt, tt)
 obeys_places (subquery e offset at range step) h = (tt, tt, tt, closed e h)
 obeys_places t h = (tt, tt, tt, tt)
 
 has_places : (t : Tree) → IsPlaced t → IsNodePlaced t
-has_places (unary e) h = h.2
+has_places (unary e) h = operand_negated e h.2
 has_places (binary op l r m) h = (h.0, h.1)
 has_places (subquery e offset at range step) h = subqueried e h.3
 has_places t h = tt

@@ -10,6 +10,7 @@ use Rattle.promql_rewrite.specs.Reasons.{IsFitting}
 use Rattle.promql_rewrite.specs.declared.printable.NotPrintable.{NotPrintable}
 use Rattle.promql_rewrite.specs.declared.printable.NotPrintable.TheVariants as reason
 use Rattle.promql_rewrite.proofs.readback.ClosedTrees.{closed, subqueried}
+use Rattle.promql_rewrite.proofs.NegatedOperands.{negated_operand, operand_negated}
 use Rattle.promql_rewrite.proofs.readback.Grouped.{grouped, groups}
 
 pub node_breaks : (r : NotPrintable) (t : Tree) → IsWrongNode r t → Obeys r t → ⊥
@@ -26,7 +27,7 @@ node_breaks reason.Cardinality (binary op l r (Some (matching card clause b valu
     cc
 node_breaks reason.LeftSide (binary op l r m) h k = h k
 node_breaks reason.RightSide (binary op l r m) h k = h k
-node_breaks reason.Operand (unary e) h k = h k
+node_breaks reason.Operand (unary e) h k = h (operand_negated e k)
 node_breaks reason.Subqueried (subquery e offset at range step) h k = h (subqueried e k)
 node_breaks reason.Groups (vector (selector name matchers offset at)) h k = h (groups matchers k)
 node_breaks reason.Groups (matrix (selector name matchers offset at) range mode) h k = h (groups matchers k)
@@ -47,7 +48,7 @@ obeys reason.Cardinality (binary op l r None) h = tt
 obeys reason.Cardinality (binary op l r (Some (matching card clause b values))) h = h.1.1
 obeys reason.LeftSide (binary op l r m) h = h.2
 obeys reason.RightSide (binary op l r m) h = h.3
-obeys reason.Operand (unary e) h = h
+obeys reason.Operand (unary e) h = negated_operand e h
 obeys reason.Subqueried (subquery e offset at range step) h = closed e h.0
 obeys reason.Groups (vector (selector name matchers offset at)) h = grouped matchers h.0
 obeys reason.Groups (matrix (selector name matchers offset at) range mode) h = grouped matchers h.0.0
@@ -64,7 +65,7 @@ node_fits t h = λ r. obeys r t h
 pub fits_node : (t : Tree) → IsFitting t → IsFittingNode t
 fits_node (aggregate op e absent m) h = sym (h reason.Parameter)
 fits_node (aggregate op e (present p) m) h = sym (h reason.Parameter)
-fits_node (unary e) h = h reason.Operand
+fits_node (unary e) h = operand_negated e (h reason.Operand)
 fits_node (binary op l r None) h = (h reason.Operator, tt, h reason.LeftSide, h reason.RightSide)
 fits_node (binary op l r (Some (matching card None b values))) h = (h reason.Operator, (h reason.Grouping, h reason.Cardinality), h reason.LeftSide, h reason.RightSide)
 fits_node (binary op l r (Some (matching card (Some clause) b values))) h = (h reason.Operator, (tt, h reason.Cardinality), h reason.LeftSide, h reason.RightSide)

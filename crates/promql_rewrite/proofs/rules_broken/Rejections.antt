@@ -1,9 +1,8 @@
--- An error of the parser that is passed on as a rejection is that error, and not of memory; what an error of a query may be.
+-- An error of the parser that is passed on as a rejection is that error, and not of memory.
 use Rattle.std.proofs.Common.{◌≡◌, refl, sym, ◌∙◌, subst}
 use Rattle.std.specs.Prelude.{◌≢◌}
 use Rattle.promql_syntax.specs.declared.parser.ParseError.{ParseError}
 use Rattle.promql_syntax.specs.declared.parser.ParseError.TheVariants as parse_errors
-use Rattle.promql_rewrite.specs.Enforced.{IsOfQuery}
 use Rattle.promql_rewrite.specs.EnforceErrors.{IsOfEnforced, IsPassedOn, IsUnfaithful}
 use Rattle.promql_rewrite.specs.FaithfulErrors.{IsRaised}
 use Rattle.promql_rewrite.specs.declared.enforcing.EnforceError.{EnforceError}
@@ -24,18 +23,6 @@ passed_own f r raised e is =
     let both : enforcing.Parse f ≡ enforcing.Parse e = sym raised ∙ is in
     let own : f ≡ e = cc in
     (own, λ memory. let same : f ≡ parse_errors.Memory = own ∙ memory in cc)
-
-pub passed_of_query : (f : ParseError) (r : EnforceError) → IsPassedOn f r → IsOfQuery r
-passed_of_query parse_errors.Memory r passed = subst IsOfQuery (sym passed) tt
-passed_of_query f r passed = subst IsOfQuery (sym passed) tt
-
-pub of_query : (r : EnforceError) → IsOfEnforced r → IsOfQuery r
-of_query enforcing.Memory of = tt
-of_query (enforcing.Unfaithful Memory) of = of
-of_query (enforcing.Unfaithful IndentTooWide) of = of
-of_query (enforcing.Unfaithful (Rejected e)) of = of
-of_query (enforcing.Unfaithful OtherTree) of = tt
-of_query r of = absurd of
 
 -- an error of a line
 pub of_enforced : (f : NotFaithful) (r : EnforceError) → IsUnfaithful f r → ¬ (f ≡ IndentTooWide) → ((e : ParseError) → f ≡ Rejected e → e ≢ parse_errors.Memory) → IsOfEnforced r
