@@ -146,12 +146,12 @@ wider : (k n j m : ℕ) (xs : List Subexpression) → j ≤ k → n ≤ m → Al
 wider k n j m [] h i all = tt
 wider k n j m (x ∷ xs) h i all =
     let first = all.0 in
-    let ends = first.ends in
-    let begins = first.begins in
-    (record { some = first.some; ends = omega arith; begins = omega arith }, wider k n j m xs h i all.1)
+    let ends = first.1 in
+    let begins = first.2 in
+    ((first.0, omega arith, omega arith), wider k n j m xs h i all.1)
 
 lies_here : (k : ℕ) (d : Derivation) → LiesWithin k (length (yield d) + k) (k, d)
-lies_here k d = record { some = some_tokens d; ends = omega arith; begins = omega arith }
+lies_here k d = (some_tokens d, omega arith, omega arith)
 
 rest_fits : (ds : Arguments) → rest_count ds ≤ length (yield_arguments [] ds)
 rest_fits grammar.none = omega arith
@@ -231,7 +231,7 @@ nested_in a (x ∷ xs) all = (inl all.0, nested_in a xs all.1)
 
 nested_after : (a : Subexpression) (j m : ℕ) (xs : List Subexpression) → m ≤ a.0 → AllLie j m xs → AllByRecursion (IsNested a) xs
 nested_after a j m [] h all = tt
-nested_after a j m (x ∷ xs) h all = let first = all.0 in let begins = first.begins in (inr (omega arith), nested_after a j m xs h all.1)
+nested_after a j m (x ∷ xs) h all = let first = all.0 in let begins = first.2 in (inr (omega arith), nested_after a j m xs h all.1)
 
 abbrev pub AreNested : List Subexpression → Type 0
 AreNested = InOrder IsNested
@@ -240,7 +240,7 @@ nested_joined : (xs ys : List Subexpression) (j n k m : ℕ) → m ≤ j → All
 nested_joined [] ys j n k m h lx ly nx ny = ny
 nested_joined (x ∷ xs) ys j n k m h lx ly nx ny =
     let first = lx.0 in
-    let ends = first.ends in
+    let ends = first.1 in
     (all_joined (IsNested x) xs ys nx.0 (nested_after x k m ys (omega arith) ly), nested_joined xs ys j n k m h lx.1 ly nx.1 ny)
 
 chosen_nested : (b : Bool) (k : ℕ) (d : Derivation) → AreNested (nodes k d) → AreNested (cond b (nodes k d) (nodes_below k d))

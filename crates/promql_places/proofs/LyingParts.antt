@@ -9,7 +9,8 @@ use Rattle.promql_grammar.specs.GrammarParts as part
 use Rattle.promql_grammar.specs.GrammarParts.{yield_after, yield_before, yield_braces, yield_fills, yield_group, yield_grouping, yield_item, yield_items, yield_labels, yield_matching, yield_modifier, yield_names, yield_postfix}
 use Rattle.promql_grammar.specs.PartTokens.{yield_flag, yield_any_braces}
 use Rattle.promql_grammar.specs.Symbols.{punct, word}
-use Rattle.promql_places.specs.NodeParts.{Follows, PartTokens, clause_parts, group_parts, item_parts, label_parts, matcher_parts, matching_parts, parts, piece, postfix_kind}
+use Rattle.promql_places.specs.NodeParts.{Follows, PartTokens, clause_parts, group_parts, item_parts, label_parts, matcher_parts, matching_parts, parts}
+use Rattle.promql_places.specs.Pieces.{piece, postfix_kind}
 use Rattle.promql_places.specs.NodePlaces.{LieWithin, has_node}
 use Rattle.promql_places.proofs.Pairs.{InOrder}
 use Rattle.promql_places.specs.declared.parts.PartKind.{PartKind}
@@ -17,7 +18,7 @@ use Rattle.promql_places.specs.declared.parts.PartKind.TheVariants as sort
 use Rattle.promql_places.proofs.BuiltNodes.{some_tokens}
 
 abbrev pub LiesBetween : ℕ → ℕ → PartTokens → Type 0
-LiesBetween k n p = LieWithin k n p.count p.after
+LiesBetween k n p = LieWithin k n p.1 p.2
 
 abbrev pub AreOrdered : List PartTokens → Type 0
 AreOrdered = InOrder Follows
@@ -37,20 +38,20 @@ wider_lie : (k n j m : ℕ) (ps : List PartTokens) → j ≤ k → n ≤ m → A
 wider_lie k n j m [] h i all = tt
 wider_lie k n j m (p ∷ ps) h i all =
     let first = all.0 in
-    let ends = first.ends in
-    let begins = first.begins in
-    (record { some = first.some; ends = omega arith; begins = omega arith }, wider_lie k n j m ps h i all.1)
+    let ends = first.1 in
+    let begins = first.2 in
+    ((first.0, omega arith, omega arith), wider_lie k n j m ps h i all.1)
 
 wider : (k n j m : ℕ) (ps : List PartTokens) → j ≤ k → n ≤ m → Fit k n ps → Fit j m ps
 wider k n j m ps h i fit = record { lie = wider_lie k n j m ps h i fit.lie; ordered = fit.ordered }
 
-all_follow : (p : PartTokens) (k n : ℕ) (ps : List PartTokens) → n ≤ p.after → AllLie k n ps → AllByRecursion (Follows p) ps
+all_follow : (p : PartTokens) (k n : ℕ) (ps : List PartTokens) → n ≤ p.2 → AllLie k n ps → AllByRecursion (Follows p) ps
 all_follow p k n [] h all = tt
-all_follow p k n (q ∷ qs) h all = let first = all.0 in let begins = first.begins in (inl (omega arith), all_follow p k n qs h all.1)
+all_follow p k n (q ∷ qs) h all = let first = all.0 in let begins = first.2 in (inl (omega arith), all_follow p k n qs h all.1)
 
-more_fit : (k n m : ℕ) (p : PartTokens) (ps : List PartTokens) → 0 < p.count → k ≤ p.after → p.count + p.after ≤ n → m ≤ p.after → Fit k m ps → Fit k n (p ∷ ps)
+more_fit : (k n m : ℕ) (p : PartTokens) (ps : List PartTokens) → 0 < p.1 → k ≤ p.2 → p.1 + p.2 ≤ n → m ≤ p.2 → Fit k m ps → Fit k n (p ∷ ps)
 more_fit k n m p ps some ends begins rest fit = record {
-  lie = (record { some = some; ends = ends; begins = begins }, wider_lie k m k n ps (omega arith) (omega arith) fit.lie);
+  lie = ((some, ends, begins), wider_lie k m k n ps (omega arith) (omega arith) fit.lie);
   ordered = (all_follow p k m ps rest fit.lie, fit.ordered);
 }
 
@@ -62,7 +63,7 @@ ordered_joined : (ps qs : List PartTokens) (j n k m : ℕ) → m ≤ j → AllLi
 ordered_joined [] qs j n k m h x y a b = b
 ordered_joined (p ∷ ps) qs j n k m h x y a b =
     let first = x.0 in
-    let ends = first.ends in
+    let ends = first.1 in
     (all_joined (Follows p) ps qs a.0 (all_follow p k m qs (omega arith) y), ordered_joined ps qs j n k m h x.1 y a.1 b)
 
 both_fit : (ps qs : List PartTokens) (j n k m : ℕ) → m ≤ j → k ≤ j → m ≤ n → Fit j n ps → Fit k m qs → Fit k n (ps ++ qs)
@@ -75,17 +76,17 @@ one_fits : (p : PartKind) (c a : ℕ) → 0 < c → Fit a (c + a) (piece p c a �
 one_fits p c a some = more_fit a (c + a) a (piece p c a) [] some (omega arith) (omega arith) (omega arith) (none_fit a a)
 
 -- a part that has all of these
-whole_follows : (w : PartTokens) (k n : ℕ) (ps : List PartTokens) → w.after ≤ k → n ≤ w.count + w.after → AllLie k n ps → AreOrdered ps → AreOrdered (ps ++ w ∷ [])
+whole_follows : (w : PartTokens) (k n : ℕ) (ps : List PartTokens) → w.2 ≤ k → n ≤ w.1 + w.2 → AllLie k n ps → AreOrdered ps → AreOrdered (ps ++ w ∷ [])
 whole_follows w k n [] h i lie ordered = (tt, tt)
 whole_follows w k n (p ∷ ps) h i lie ordered =
     let first = lie.0 in
-    let ends = first.ends in
-    let begins = first.begins in
+    let ends = first.1 in
+    let begins = first.2 in
     (all_joined (Follows p) ps (w ∷ []) ordered.0 (inr (omega arith, omega arith), tt), whole_follows w k n ps h i lie.1 ordered.1)
 
-whole_fits : (w : PartTokens) (k n : ℕ) (ps : List PartTokens) → 0 < w.count → w.after ≡ k → n ≡ w.count + w.after → Fit k n ps → Fit k n (ps ++ w ∷ [])
+whole_fits : (w : PartTokens) (k n : ℕ) (ps : List PartTokens) → 0 < w.1 → w.2 ≡ k → n ≡ w.1 + w.2 → Fit k n ps → Fit k n (ps ++ w ∷ [])
 whole_fits w k n ps some a c fit = record {
-  lie = all_joined (LiesBetween k n) ps (w ∷ []) fit.lie (record { some = some; ends = omega arith; begins = omega arith }, tt);
+  lie = all_joined (LiesBetween k n) ps (w ∷ []) fit.lie ((some, omega arith, omega arith), tt);
   ordered = whole_follows w k n ps (omega arith) (omega arith) fit.lie fit.ordered;
 }
 

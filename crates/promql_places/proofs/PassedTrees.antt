@@ -21,7 +21,8 @@ use Rattle.promql_kind.specs.Modifiers.{Clause as TreeClause}
 use Rattle.promql_syntax.specs.Building.{build, build_all}
 use Rattle.promql_syntax.specs.FaultTokens.{Subexpression, rest_count}
 use Rattle.promql_syntax.proofs.readback.CheckedAgain.{arguments}
-use Rattle.promql_places.specs.NodeParts.{PartTokens, clause_parts, matching_parts, parts, piece, postfix_kind}
+use Rattle.promql_places.specs.NodeParts.{PartTokens, clause_parts, matching_parts, parts}
+use Rattle.promql_places.specs.Pieces.{piece, postfix_kind}
 use Rattle.promql_places.proofs.LyingParts.{after_parts, before_parts, clause_is}
 use Rattle.promql_places.specs.NodePlaces.{argument_nodes, has_node, is_number, nodes, nodes_below}
 use Rattle.promql_places.specs.PartSteps as step

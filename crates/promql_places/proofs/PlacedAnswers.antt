@@ -13,8 +13,8 @@ use Rattle.promql_syntax.specs.Asking.{EndsIn}
 use Rattle.promql_syntax.specs.Building.{build}
 use Rattle.promql_syntax.specs.ParseAnswers.{Derives, IsAnswerTo, memory}
 use Rattle.promql_places.specs.CursorTokens.{kinds_left, lexeme_kind}
-use Rattle.promql_places.specs.NodeParts.{AreParts}
-use Rattle.promql_places.specs.NodePlaces.{ArePlaces, LiesWithin, nodes}
+use Rattle.promql_places.specs.NodeParts.{parts_of}
+use Rattle.promql_places.specs.NodePlaces.{AreOfNodes, LiesWithin, nodes, place_of}
 use Rattle.promql_places.specs.Passing.{IsPlacing, Passed, Passes, lists_of, parts_in, pass, place_in}
 use Rattle.promql_places.specs.Skipping.{kind_of, kinds}
 use Rattle.promql_places.specs.declared.placing.Placing.{Placing}
@@ -84,14 +84,14 @@ passed s t old new placed answer over all none bare passes =
 
 -- finds the places
 pub found : (s : Text) (t : Tree) (old new : Placing) → TokensArePlaced → IsPlacing s old → kinds_left old.tokens ≡ map lexeme_kind (placed_tokens s) → old.places.items ≡ [] → old.parts.items ≡ []
-    → Passes (pass t (kinds_left old.tokens)) old new [] [] → IsAnswerTo s (Ok t) → ArePlaces s t new.places.items
+    → Passes (pass t (kinds_left old.tokens)) old new [] [] → IsAnswerTo s (Ok t) → AreOfNodes (place_of s) s t new.places.items
 found s t old new placed over all none bare passes answer =
     let p = passed s t old new placed answer over all none bare passes in
-    record { derivation = p.derivation; derives = p.derives; build = builds_nodes 0 p.derivation t p.builds; are = p.places ∙ places_are s (nodes 0 p.derivation) p.lie }
+    (p.derivation, p.derives, builds_nodes 0 p.derivation t p.builds, p.places ∙ places_are s (nodes 0 p.derivation) p.lie)
 
 -- and the parts
 pub parts_found : (s : Text) (t : Tree) (old new : Placing) → TokensArePlaced → IsPlacing s old → kinds_left old.tokens ≡ map lexeme_kind (placed_tokens s) → old.places.items ≡ [] → old.parts.items ≡ []
-    → Passes (pass t (kinds_left old.tokens)) old new [] [] → IsAnswerTo s (Ok t) → AreParts s t (lists_of new.parts.items)
+    → Passes (pass t (kinds_left old.tokens)) old new [] [] → IsAnswerTo s (Ok t) → AreOfNodes (parts_of s) s t (lists_of new.parts.items)
 parts_found s t old new placed over all none bare passes answer =
     let p = passed s t old new placed answer over all none bare passes in
-    record { derivation = p.derivation; derives = p.derives; build = builds_nodes 0 p.derivation t p.builds; are = p.parts ∙ lists_are s (nodes 0 p.derivation) p.lie }
+    (p.derivation, p.derives, builds_nodes 0 p.derivation t p.builds, p.parts ∙ lists_are s (nodes 0 p.derivation) p.lie)

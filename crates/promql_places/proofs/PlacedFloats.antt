@@ -20,7 +20,8 @@ use Rattle.promql_json.specs.declared.error.JsonError.{JsonError}
 use Rattle.promql_json.proofs.FaultOrder.{first_met}
 use Rattle.promql_json.proofs.NoFloat.{no_float_of_json}
 use Rattle.promql_span.specs.declared.span.Span.{Span}
-use Rattle.promql_places.specs.PlacedForms.{NodePlace, matcher_places, node_count, param_count, placed_args, placed_groups, placed_matcher, placed_matchers, placed_node, placed_param, placed_value, with_placed, with_placed_groups, with_placed_matchers}
+use Rattle.promql_places.specs.PlacedForms.{NodePlace, matcher_places, placed_args, placed_groups, placed_matcher, placed_matchers, placed_node, placed_param, with_placed, with_placed_groups, with_placed_matchers}
+use Rattle.promql_places.specs.PlacedFormSteps.{node_count, param_count, placed_value}
 
 one_of : (o : Ordering) (a b c : Members) → members_have_float a ≡ false → members_have_float b ≡ false → members_have_float c ≡ false → members_have_float (match_ordering o a b c) ≡ false
 one_of Less a b c p q r = p

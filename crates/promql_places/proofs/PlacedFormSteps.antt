@@ -22,8 +22,8 @@ use Rattle.promql_json.proofs.FaultOrder.{first_met}
 use Rattle.promql_json.specs.JsonParts.{list}
 use Rattle.promql_walk.specs.PlainMembers.{typed_members}
 use Rattle.promql_span.specs.declared.span.Span.{Span}
-use Rattle.promql_places.specs.PlacedForms.{NodePlace, node_count, param_count, placed_args, placed_groups, placed_matcher, placed_matchers, placed_value, with_placed, with_placed_groups}
-use Rattle.promql_places.specs.PlacedFormSteps.{args_count, inner_count, inner_fault, nodes_within}
+use Rattle.promql_places.specs.PlacedForms.{NodePlace, placed_args, placed_groups, placed_matcher, placed_matchers, with_placed, with_placed_groups}
+use Rattle.promql_places.specs.PlacedFormSteps.{args_count, inner_count, inner_fault, node_count, nodes_within, param_count, placed_value}
 
 -- the members of nodes are put in any case
 pub from_plain : (t : Tree) (qs : List Span) (ps : List NodePlace) → with_placed t qs ps (typed_members t) ≡ with_placed t qs ps (put (codes "type") (text (type_name t)) (node_members t))

@@ -93,23 +93,23 @@ pub places_are : (s : Text) (subs : List Subexpression) → AllByRecursion (Lies
 places_are s [] all = refl
 places_are s (sub ∷ subs) all =
     let lies = all.0 in
-    λ i. tokens_are s (length (yield sub.1)) sub.0 lies.some lies.begins i ∷ places_are s subs all.1 i
+    λ i. tokens_are s (length (yield sub.1)) sub.0 lies.0 lies.2 i ∷ places_are s subs all.1 i
 
 -- from the first of its tokens through the last
 abbrev part_at : Text → PartTokens → Part
-part_at s p = record { kind = p.kind; span = span_over s (tokens_at s p.count p.after) }
+part_at s p = record { kind = p.0; span = span_over s (tokens_at s p.1 p.2) }
 
 parts_are : (s : Text) (sub : Subexpression) (ps : List PartTokens) → length (yield sub.1) + sub.0 ≤ length (placed_tokens s) → AllByRecursion (LiesBetween sub.0 (length (yield sub.1) + sub.0)) ps → map (part_in s) (spans ps) ≡ map (part_at s) ps
 parts_are s sub [] fits all = refl
 parts_are s sub (p ∷ ps) fits all =
     let lies = all.0 in
-    let some = lies.some in
-    let begins = lies.begins in
-    let here : span_in s (p.count + p.after, p.after) ≡ span_over s (tokens_at s p.count p.after) = tokens_are s p.count p.after some (omega arith) in
-    λ i. record { kind = p.kind; span = here i } ∷ parts_are s sub ps fits all.1 i
+    let some = lies.0 in
+    let begins = lies.2 in
+    let here : span_in s (p.1 + p.2, p.2) ≡ span_over s (tokens_at s p.1 p.2) = tokens_are s p.1 p.2 some (omega arith) in
+    λ i. record { kind = p.0; span = here i } ∷ parts_are s sub ps fits all.1 i
 
 pub lists_are : (s : Text) (subs : List Subexpression) → AllByRecursion (LiesWithin 0 (length (placed_tokens s))) subs → map (parts_in s) (counts subs) ≡ map (parts_of s) subs
 lists_are s [] all = refl
 lists_are s (sub ∷ subs) all =
     let lies = all.0 in
-    λ i. parts_are s sub (parts sub.0 sub.1) lies.begins ((parts_fit sub.1 sub.0).lie) i ∷ lists_are s subs all.1 i
+    λ i. parts_are s sub (parts sub.0 sub.1) lies.2 ((parts_fit sub.1 sub.0).lie) i ∷ lists_are s subs all.1 i

@@ -11,7 +11,8 @@ use Rattle.promql_grammar.specs.Grammar.{OpensNoParen, FitsMatching}
 use Rattle.promql_grammar.specs.GrammarParts.{Time, seconds, duration, Signed, Labels, no_label, last, next, Group, Matching, FillValue, Fills, no_fill, both, one, two, Modifier, MatchOperator, equal, not_equal, equal_regex, not_equal_regex, Item, matcher, lone, Separator, Items, last_item, next_item, Braces, Postfix, range, subquery, at_number, at_bound, offset, mode, yield_time, yield_signed, yield_names, yield_labels, yield_grouping, yield_group, yield_matching, yield_value, yield_fills, yield_modifier, yield_match_operator, yield_item, yield_items, yield_separator, yield_braces, yield_postfix, IsLabels, IsMatching}
 use Rattle.promql_grammar.specs.PartTokens.{yield_flag, yield_step, yield_any_braces, IsGroup}
 use Rattle.promql_grammar.proofs.GrammarChoices.{if_false}
-use Rattle.promql_places.specs.NodeParts.{PartTokens, group_parts, item_parts, label_parts, matcher_parts, matching_parts, piece, postfix_kind}
+use Rattle.promql_places.specs.NodeParts.{PartTokens, group_parts, item_parts, label_parts, matcher_parts, matching_parts}
+use Rattle.promql_places.specs.Pieces.{piece, postfix_kind}
 use Rattle.promql_places.specs.PartSteps as step
 use Rattle.promql_places.specs.PartSteps.{PartSpan, Taken, also, and_then}
 use Rattle.promql_places.specs.Skipping.{front, kind_of, kinds, is_closing, is_left_brace, skip_brackets, skip_fill, skip_flag}
@@ -21,7 +22,7 @@ use Rattle.promql_places.specs.declared.parts.PartKind.TheVariants as part
 -- ---- parts by counts
 
 abbrev pub span_of : PartTokens → PartSpan
-span_of p = (p.kind, (p.count + p.after, p.after))
+span_of p = (p.0, (p.1 + p.2, p.2))
 
 abbrev pub spans : List PartTokens → List PartSpan
 spans ps = map span_of ps

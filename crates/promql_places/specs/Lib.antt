@@ -4,6 +4,7 @@ pub mod NodePlaces
 pub mod PartSteps
 pub mod Passing
 pub mod PlacedForms
+pub mod Pieces
 pub mod PlacedFormSteps
 pub mod PlacedWalks
 pub mod Skipping

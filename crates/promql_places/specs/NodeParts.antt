@@ -1,35 +1,28 @@
 -- Where the parts of nodes are in a text (docs/reference/walks.md, "Parts of nodes").
-use Rattle.std.specs.Prelude.{◌≡◌, ◌⊎◌, ℕ, ◌+◌, ◌≤◌, if◌then◌else◌, List, [], ◌∷◌, ◌++◌, length, map, Some, None, true, false}
+use Rattle.std.specs.Prelude.{◌⊎◌, ℕ, ◌+◌, ◌≤◌, if◌then◌else◌, List, [], ◌∷◌, ◌++◌, length, map, Some, None, true, false}
 use Rattle.std.specs.Option.{option_map_or}
 use Rattle.promql_text.specs.Texts.{Text}
 use Rattle.promql_grammar.specs.Grammar as grammar
 use Rattle.promql_grammar.specs.Grammar.{Derivation, yield, yield_arguments}
 use Rattle.promql_grammar.specs.GrammarParts.{Labels, no_label, last, next, Clause, Group, Matching, Items, last_item, next_item, Braces, Postfix, range, subquery, offset, mode, yield_names, yield_braces, yield_before, yield_after, yield_group, yield_fills, yield_modifier, yield_item, yield_items, yield_postfix}
-use Rattle.promql_ast.specs.Tree.{Tree}
 use Rattle.promql_syntax.specs.FaultTokens.{Subexpression}
-use Rattle.promql_syntax.specs.ParseAnswers.{Derives}
 use Rattle.promql_span.specs.TokenSpans.{span_over}
-use Rattle.promql_places.specs.NodePlaces.{BuildEach, has_node, nodes, tokens_at, tree_nodes}
+use Rattle.promql_places.specs.NodePlaces.{has_node, tokens_at}
 use Rattle.promql_places.specs.declared.parts.Part.{Part}
 use Rattle.promql_places.specs.declared.parts.PartKind.{PartKind}
 use Rattle.promql_places.specs.declared.parts.PartKind.TheVariants as kind
 
 -- a part: its kind, how many tokens it has, and how many come after it
-pub record PartTokens : Type 0 where
-  pub kind : PartKind
-  pub count : ℕ
-  pub after : ℕ
-
-abbrev pub piece : PartKind → ℕ → ℕ → PartTokens
-piece p n k = record { kind = p; count = n; after = k }
+abbrev pub PartTokens : Type 0
+PartTokens = PartKind × ℕ × ℕ
 
 -- ---- the parts of what k tokens come after
 
 -- labels in parentheses
 abbrev pub label_parts : PartKind → ℕ → Labels → List PartTokens
 label_parts p k no_label = []
-label_parts p k (last w text) = piece p 1 (1 + k) ∷ []
-label_parts p k (next w text ls) = piece p 1 (1 + (length (yield_names ls) + k)) ∷ label_parts p k ls
+label_parts p k (last w text) = (p, 1, 1 + k) ∷ []
+label_parts p k (next w text ls) = (p, 1, 1 + (length (yield_names ls) + k)) ∷ label_parts p k ls
 
 -- the clause of an aggregation, which n tokens come after where it is before the arguments
 abbrev pub clause_parts : ℕ → ℕ → Clause → List PartTokens
@@ -48,59 +41,47 @@ matching_parts k (Some (w, text, ls, g)) = label_parts kind.Label (length (yield
 
 -- matchers in braces
 abbrev pub item_parts : ℕ → Items → List PartTokens
-item_parts k (last_item i false) = piece kind.Matcher (length (yield_item i)) (1 + k) ∷ []
-item_parts k (last_item i true) = piece kind.Matcher (length (yield_item i)) (2 + k) ∷ []
-item_parts k (next_item i s is) = piece kind.Matcher (length (yield_item i)) (1 + (length (yield_items is) + k)) ∷ item_parts k is
+item_parts k (last_item i false) = (kind.Matcher, length (yield_item i), 1 + k) ∷ []
+item_parts k (last_item i true) = (kind.Matcher, length (yield_item i), 2 + k) ∷ []
+item_parts k (next_item i s is) = (kind.Matcher, length (yield_item i), 1 + (length (yield_items is) + k)) ∷ item_parts k is
 
 abbrev pub matcher_parts : ℕ → Braces → List PartTokens
 matcher_parts k None = []
 matcher_parts k (Some is) = item_parts k is
 
-abbrev pub postfix_kind : Postfix → PartKind
-postfix_kind (range t) = kind.Range
-postfix_kind (subquery t s) = kind.Range
-postfix_kind (offset text s t) = kind.Offset
-postfix_kind (mode smoothed text) = kind.Mode
-postfix_kind p = kind.At
+abbrev pub shift_kind : Postfix → PartKind
+shift_kind (offset text s t) = kind.Offset
+shift_kind (mode smoothed text) = kind.Mode
+shift_kind p = kind.At
 
--- a selector is a part of its own before a range, and a node before that of a subquery
-abbrev pub base_parts : Postfix → PartTokens → List PartTokens → List PartTokens
-base_parts (range t) whole ps = ps ++ whole ∷ []
-base_parts (subquery t s) whole ps = []
-base_parts p whole ps = ps
-
--- those of an expression, but of its nodes below, in the order in which they end
+-- those of an expression, but of its nodes below, in the order in which they end; a selector is a part of its own before a range,
+-- and a node before that of a subquery
 abbrev pub parts : ℕ → Derivation → List PartTokens
-parts k (grammar.selector w text b) = piece kind.Name 1 (length (option_map_or yield_braces b []) + k) ∷ option_map_or (matcher_parts k) b []
+parts k (grammar.selector w text b) = (kind.Name, 1, length (option_map_or yield_braces b []) + k) ∷ option_map_or (matcher_parts k) b []
 parts k (grammar.nameless b) = matcher_parts k b
-parts k (grammar.call w text ds) = piece kind.Name 1 (1 + (length (yield_arguments [] ds) + k)) ∷ []
+parts k (grammar.call w text ds) = (kind.Name, 1, 1 + (length (yield_arguments [] ds) + k)) ∷ []
 parts k (grammar.aggregate op text c ds) =
     let inner = 1 + (length (yield_arguments [] ds) + (length (yield_after c) + k)) in
-    piece kind.Operator 1 (length (yield_before c) + inner) ∷ clause_parts inner k c
-parts k (grammar.postfixed d p) =
-    let after = length (yield_postfix p) + k in
-    base_parts p (piece kind.Selector (length (yield d)) after) (parts after d) ++ piece (postfix_kind p) (length (yield_postfix p)) k ∷ []
-parts k (grammar.unary op text d) = if has_node op d then piece kind.Operator 1 (length (yield d) + k) ∷ [] else parts k d
+    (kind.Operator, 1, length (yield_before c) + inner) ∷ clause_parts inner k c
+parts k (grammar.postfixed d (range t)) =
+    let after = length (yield_postfix (range t)) + k in
+    (parts after d ++ (kind.Selector, length (yield d), after) ∷ []) ++ (kind.Range, length (yield_postfix (range t)), k) ∷ []
+parts k (grammar.postfixed d (subquery t s)) = (kind.Range, length (yield_postfix (subquery t s)), k) ∷ []
+parts k (grammar.postfixed d p) = parts (length (yield_postfix p) + k) d ++ (shift_kind p, length (yield_postfix p), k) ∷ []
+parts k (grammar.unary op text d) = if has_node op d then (kind.Operator, 1, length (yield d) + k) ∷ [] else parts k d
 parts k (grammar.binary op text m l r) =
     let after = length (yield r) + k in
-    piece kind.Operator 1 (length (yield_modifier m) + after) ∷ matching_parts (length (yield_fills m.2) + after) m.1
+    (kind.Operator, 1, length (yield_modifier m) + after) ∷ matching_parts (length (yield_fills m.2) + after) m.1
 parts k d = []
 
 -- ---- their places
 
 -- from the first of its tokens through the last
 abbrev pub parts_of : Text → Subexpression → List Part
-parts_of s sub = map (λ p. record { kind = p.kind; span = span_over s (tokens_at s p.count p.after) }) (parts sub.0 sub.1)
-
--- the parts of the nodes of a text's tree: those of the expressions that build them
-pub record AreParts (s : Text) (t : Tree) (lists : List (List Part)) : Type 0 where
-  pub derivation : Derivation
-  pub derives : Derives s derivation
-  pub build : BuildEach (nodes 0 derivation) (tree_nodes t)
-  pub are : lists ≡ map (parts_of s) (nodes 0 derivation)
+parts_of s sub = map (λ p. record { kind = p.0; span = span_over s (tokens_at s p.1 p.2) }) (parts sub.0 sub.1)
 
 -- ---- laws
 
 -- the second of two parts begins after the first, or has its tokens and ends after it or with it
 abbrev pub Follows : PartTokens → PartTokens → Type 0
-Follows p q = (q.count + q.after ≤ p.after) ⊎ ((q.after ≤ p.after) × (p.count + p.after ≤ q.count + q.after))
+Follows p q = (q.1 + q.2 ≤ p.2) ⊎ ((q.2 ≤ p.2) × (p.1 + p.2 ≤ q.1 + q.2))

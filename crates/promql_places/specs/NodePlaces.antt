@@ -74,20 +74,15 @@ tokens_at s count after = take count (last_tokens (count + after) (placed_tokens
 abbrev pub place_of : Text → Subexpression → Span
 place_of s sub = span_over s (tokens_at s (length (yield sub.1)) sub.0)
 
--- the places of the nodes of a text's tree: those of the expressions that build them
-pub record ArePlaces (s : Text) (t : Tree) (places : List Span) : Type 0 where
-  pub derivation : Derivation
-  pub derives : Derives s derivation
-  pub build : BuildEach (nodes 0 derivation) (tree_nodes t)
-  pub are : places ≡ map (place_of s) (nodes 0 derivation)
+-- what f gives for the expressions of a text that build the nodes of its tree
+abbrev pub AreOfNodes : {A : Type 0} → (Subexpression → A) → Text → Tree → List A → Type 0
+AreOfNodes f s t xs = (d : Derivation) × Derives s d × BuildEach (nodes 0 d) (tree_nodes t) × (xs ≡ map f (nodes 0 d))
 
 -- ---- laws
 
 -- tokens, which lie within these: k come after the last, and n are left at the first
-pub record LieWithin (k n count after : ℕ) : Type 0 where
-  pub some : 0 < count
-  pub ends : k ≤ after
-  pub begins : count + after ≤ n
+abbrev pub LieWithin : ℕ → ℕ → ℕ → ℕ → Type 0
+LieWithin k n count after = (0 < count) × (k ≤ after) × (count + after ≤ n)
 
 -- an expression has such tokens
 abbrev pub LiesWithin : ℕ → ℕ → Subexpression → Type 0

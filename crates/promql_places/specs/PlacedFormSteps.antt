@@ -1,11 +1,23 @@
 -- What is done for a form with places, step by step. Private: nothing rests on believing it.
 use Rattle.std.specs.Prelude.{ℕ, ◌+◌, List, [], ◌∷◌, ◌++◌, length, map, zip, Option, None}
-use Rattle.promql_ast.specs.Fold.{within}
-use Rattle.promql_ast.specs.Tree.{Tree, subquery, vector, matrix, Trees, no_trees, first_tree}
+use Rattle.serde_json.specs.Data.{Data}
+use Rattle.promql_ast.specs.Fold.{maybe_within, within}
+use Rattle.promql_ast.specs.Tree.{Tree, subquery, vector, matrix, MaybeTree, Trees, no_trees, first_tree}
 use Rattle.promql_json.specs.JsonFaults.{json_fault}
 use Rattle.promql_json.specs.declared.error.JsonError.{JsonError}
-use Rattle.promql_places.specs.PlacedForms.{NodePlace, node_count}
+use Rattle.promql_places.specs.NodePlaces.{tree_nodes}
+use Rattle.promql_places.specs.PlacedForms.{NodePlace, placed_node, with_placed}
 use Rattle.promql_places.specs.declared.placed_form.NodesLeft.{NodesLeft}
+
+-- how many nodes a tree has, and a parameter
+abbrev pub node_count : Tree → ℕ
+node_count t = length (tree_nodes t)
+
+abbrev pub param_count : MaybeTree → ℕ
+param_count p = length (maybe_within [] ◌++◌ ◌∷◌ p)
+
+abbrev pub placed_value : Tree → List NodePlace → Data
+placed_value t = placed_node (with_placed t) t
 
 abbrev pub left : NodesLeft → List NodePlace
 left n = zip n.places.now (map (λ ps. ps.items) n.parts.now)

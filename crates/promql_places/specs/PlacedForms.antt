@@ -1,5 +1,5 @@
 -- The JSON form of a tree with the places of its nodes and matchers (docs/reference/json.md, "Places").
-use Rattle.std.specs.Prelude.{◌≡◌, ℕ, List, [], ◌∷◌, ◌++◌, Option, codes, drop, filter, length, map, slice_get, zip}
+use Rattle.std.specs.Prelude.{◌≡◌, List, [], ◌∷◌, ◌++◌, Option, codes, drop, filter, length, map, slice_get, zip}
 use Rattle.std.specs.Option.{option_map_or}
 use Rattle.serde_json.specs.Data.{Data, null, number as whole_number, unsigned, string as text, object, Members, put}
 use Rattle.promql_text.specs.Texts.{Text}
@@ -10,8 +10,8 @@ use Rattle.promql_ast.specs.Tree.{Tree, aggregate, unary, binary, paren, subquer
 use Rattle.promql_json.specs.Json.{json_value, node_parts}
 use Rattle.promql_json.specs.JsonParts.{list, matcher_json}
 use Rattle.promql_span.specs.declared.span.Span.{Span}
-use Rattle.promql_places.specs.NodeParts.{AreParts}
-use Rattle.promql_places.specs.NodePlaces.{ArePlaces, tree_nodes}
+use Rattle.promql_places.specs.NodeParts.{parts_of}
+use Rattle.promql_places.specs.NodePlaces.{AreOfNodes, place_of, tree_nodes}
 use Rattle.promql_places.specs.contracts.parts.PartKindPartialEq.TheImpl as same_kinds
 use Rattle.promql_places.specs.declared.parts.Part.{Part}
 use Rattle.promql_places.specs.declared.parts.PartKind.TheVariants as kind
@@ -55,12 +55,6 @@ with_placed_matchers (plain_matchers plain groups) ps ms =
 abbrev pub NodePlace : Type 0
 NodePlace = Span × List Part
 
-abbrev pub node_count : Tree → ℕ
-node_count t = length (tree_nodes t)
-
-abbrev pub param_count : MaybeTree → ℕ
-param_count p = length (maybe_within [] ◌++◌ ◌∷◌ p)
-
 -- a node's object: that of its form with its place, and anew the members that hold matchers and other nodes
 abbrev pub placed_node : (List Span → List NodePlace → Members → Members) → Tree → List NodePlace → Data
 placed_node anew t [] = json_value t
@@ -70,9 +64,11 @@ placed_node anew t (p ∷ ps) =
 -- places are in the order of a walk, and those of a node come before those below it
 abbrev mutual
   pub with_placed : Tree → List Span → List NodePlace → Members → Members
-  with_placed (aggregate op e p m) = λ qs ps ms. put (codes "expr") (placed_node (with_placed e) e (drop (param_count p) ps)) (put (codes "param") (placed_param p ps) ms)
+  with_placed (aggregate op e p m) = λ qs ps ms.
+      put (codes "expr") (placed_node (with_placed e) e (drop (length (maybe_within [] ◌++◌ ◌∷◌ p)) ps)) (put (codes "param") (placed_param p ps) ms)
   with_placed (unary e) = λ qs ps ms. put (codes "expr") (placed_node (with_placed e) e ps) ms
-  with_placed (binary op l r m) = λ qs ps ms. put (codes "rhs") (placed_node (with_placed r) r (drop (node_count l) ps)) (put (codes "lhs") (placed_node (with_placed l) l ps) ms)
+  with_placed (binary op l r m) = λ qs ps ms.
+      put (codes "rhs") (placed_node (with_placed r) r (drop (length (tree_nodes l)) ps)) (put (codes "lhs") (placed_node (with_placed l) l ps) ms)
   with_placed (paren e) = λ qs ps ms. put (codes "expr") (placed_node (with_placed e) e ps) ms
   with_placed (subquery e offset at range step) = λ qs ps ms. put (codes "expr") (placed_node (with_placed e) e ps) ms
   with_placed (vector (selector name cs offset at)) = λ qs ps ms. with_placed_matchers cs qs ms
@@ -86,14 +82,12 @@ abbrev mutual
 
   pub placed_args : Trees → List NodePlace → List Data
   placed_args no_trees = λ ps. []
-  placed_args (first_tree e es) = λ ps. placed_node (with_placed e) e ps ∷ placed_args es (drop (node_count e) ps)
-
-abbrev pub placed_value : Tree → List NodePlace → Data
-placed_value t = placed_node (with_placed t) t
+  placed_args (first_tree e es) = λ ps. placed_node (with_placed e) e ps ∷ placed_args es (drop (length (tree_nodes e)) ps)
 
 -- ---- the form of a text's tree
 
 -- this value
 abbrev pub IsPlacedForm : Text → Tree → Data → Type 0
 IsPlacedForm s t d =
-    (places : List Span) × (lists : List (List Part)) × ArePlaces s t places × AreParts s t lists × (d ≡ placed_value t (zip places lists))
+    (places : List Span) × (lists : List (List Part)) × AreOfNodes (place_of s) s t places × AreOfNodes (parts_of s) s t lists
+    × (d ≡ placed_node (with_placed t) t (zip places lists))

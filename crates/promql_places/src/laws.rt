@@ -29,7 +29,7 @@ pub fn nodes_nest()
 /// The parts of an expression have tokens, which lie within those of the expression.
 pub fn parts_lie_within()
     ensures { (k : ℕ) (d : Derivation)
-        → AllByRecursion (λ p. LieWithin k (length (yield d) + k) p.count p.after) (parts k d) }
+        → AllByRecursion (λ p. LieWithin k (length (yield d) + k) p.1 p.2) (parts k d) }
 {}
 
 /// Of two parts of an expression the one that comes later begins after the other, or has its tokens.

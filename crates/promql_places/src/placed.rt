@@ -5,8 +5,8 @@ ghost use Rattle.std.specs.Result.{result_map_both};
 ghost use Rattle.promql_ast.specs.View.{tree_of};
 ghost use Rattle.promql_span.specs.ErrorPlaces.{IsPlaceOf};
 ghost use Rattle.promql_syntax.specs.ParseAnswers.{IsAnswerTo, plain_error_of};
-ghost use Rattle.promql_places.specs.NodeParts.{AreParts};
-ghost use Rattle.promql_places.specs.NodePlaces.{ArePlaces};
+ghost use Rattle.promql_places.specs.NodeParts.{parts_of};
+ghost use Rattle.promql_places.specs.NodePlaces.{AreOfNodes, place_of};
 ghost use Rattle.promql_places.specs.Passing.{lists_of};
 
 use crate::parts::Part;
@@ -39,8 +39,8 @@ pub struct PlacedExpr {
 pub fn parse_placed(alloc: Global, text: &str) -> Result<PlacedExpr, Diagnosis>
     ensures answer { IsAnswerTo text.now (result_map_both (λ p. tree_of p.expr) (λ d. plain_error_of d.error) result) }
     ensures place { IfErr result (λ d. IsPlaceOf text.now d.error d.span) }
-    ensures places { IfOk result (λ p. ArePlaces text.now (tree_of p.expr) p.places.items) }
-    ensures parts { IfOk result (λ p. AreParts text.now
+    ensures places { IfOk result (λ p. AreOfNodes (place_of text.now) text.now (tree_of p.expr) p.places.items) }
+    ensures parts { IfOk result (λ p. AreOfNodes (parts_of text.now) text.now
         (tree_of p.expr) (map (λ ps. ps.items) p.parts.items)) }
 {
     let expr = diagnose(alloc, text)?;
@@ -68,7 +68,7 @@ pub fn parse_placed(alloc: Global, text: &str) -> Result<PlacedExpr, Diagnosis>
 /// `AllocError` where an allocation failed.
 pub fn find_places(alloc: Global, text: &str, expr: &Expr) -> Result<Vec<Span>, AllocError>
     ensures { IfOk result (λ places. IsAnswerTo text.now (Ok (tree_of expr.now))
-        → ArePlaces text.now (tree_of expr.now) places.items) }
+        → AreOfNodes (place_of text.now) text.now (tree_of expr.now) places.items) }
 {
     let placing = placed_nodes(alloc, text, expr)?;
     Ok(placing.places)
@@ -81,9 +81,9 @@ pub(crate) fn placed_nodes<'a>(
     expr: &Expr,
 ) -> Result<Placing<'a>, AllocError>
     ensures places { IfOk result (λ p. IsAnswerTo text.now (Ok (tree_of expr.now))
-        → ArePlaces text.now (tree_of expr.now) p.places.items) }
+        → AreOfNodes (place_of text.now) text.now (tree_of expr.now) p.places.items) }
     ensures parts { IfOk result (λ p. IsAnswerTo text.now (Ok (tree_of expr.now))
-        → AreParts text.now (tree_of expr.now) (lists_of p.parts.items)) }
+        → AreOfNodes (parts_of text.now) text.now (tree_of expr.now) (lists_of p.parts.items)) }
 {
     promql_span::laws::tokens_are_placed();
     let mut placing = Placing::new(alloc, text);

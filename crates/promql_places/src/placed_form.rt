@@ -12,7 +12,7 @@ ghost use Rattle.promql_syntax.specs.ParseAnswers.{IsAnswerTo};
 ghost use Rattle.promql_places.specs.PlacedForms as spec;
 ghost use Rattle.promql_places.specs.PlacedForms.{IsPlacedForm};
 ghost use Rattle.serde_json.specs.Written.{compact_text};
-ghost use Rattle.promql_places.specs.PlacedFormSteps.{args_count, left, inner_fault, inner_count};
+ghost use Rattle.promql_places.specs.PlacedFormSteps.{args_count, left, inner_fault, inner_count, node_count, param_count, placed_value};
 
 use crate::matcher_places::put_matchers;
 use crate::parts::Part;
@@ -63,9 +63,9 @@ fn put_place(members: &mut Map<String, Value>, alloc: Global, place: Span) -> Re
 #[cycle(placed_form)]
 #[tactic(auto, using(crate::proofs::PlacedFormSteps::from_plain, crate::proofs::PlacedFormSteps::fault_inside, crate::proofs::PlacedFormSteps::own_first, crate::proofs::PlacedFormSteps::form_is, crate::proofs::PlacedFormSteps::fault_is))]
 fn node_value(alloc: Global, expr: &Expr, nodes: &mut NodesLeft<'_>) -> Result<Value, JsonError>
-    ensures ok { IfOk result (λ v. view v ≡ spec.placed_value (tree_of expr.now) (left nodes.old)) }
+    ensures ok { IfOk result (λ v. view v ≡ placed_value (tree_of expr.now) (left nodes.old)) }
     ensures rest { OnOk result
-        (left nodes.new ≡ drop (spec.node_count (tree_of expr.now)) (left nodes.old)) }
+        (left nodes.new ≡ drop (node_count (tree_of expr.now)) (left nodes.old)) }
     ensures fits { OnOk result (json_fault (tree_of expr.now) ≡ None) }
     ensures err { IfErr result (λ e. e ≢ Memory → json_fault (tree_of expr.now) ≡ Some e) }
 {
@@ -121,10 +121,10 @@ fn put_node(
     nodes: &mut NodesLeft<'_>,
 ) -> Result<(), JsonError>
     ensures ok { OnOk result (members_view members.new.entries
-        ≡ with_member name.now (spec.placed_value (tree_of expr.now) (left nodes.old))
+        ≡ with_member name.now (placed_value (tree_of expr.now) (left nodes.old))
         (members_view members.old.entries)) }
     ensures rest { OnOk result
-        (left nodes.new ≡ drop (spec.node_count (tree_of expr.now)) (left nodes.old)) }
+        (left nodes.new ≡ drop (node_count (tree_of expr.now)) (left nodes.old)) }
     ensures fits { OnOk result (json_fault (tree_of expr.now) ≡ None) }
     ensures err { IfErr result (λ e. e ≢ Memory → json_fault (tree_of expr.now) ≡ Some e) }
 {
@@ -141,7 +141,7 @@ fn param_value(
 ) -> Result<Value, JsonError>
     ensures ok { IfOk result (λ v. view v ≡ spec.placed_param (option_tree param.now) (left nodes.old)) }
     ensures rest { OnOk result
-        (left nodes.new ≡ drop (spec.param_count (option_tree param.now)) (left nodes.old)) }
+        (left nodes.new ≡ drop (param_count (option_tree param.now)) (left nodes.old)) }
     ensures fits { OnOk result (param_fault (option_tree param.now) ≡ None) }
     ensures err { IfErr result (λ e. e ≢ Memory → param_fault (option_tree param.now) ≡ Some e) }
 {

@@ -5,8 +5,8 @@ use Rattle.promql_ast.proofs.nodes.NodeParts.{tree_of_call}
 use Rattle.promql_ast.specs.View.{option_tree, tree_of, trees_of}
 use Rattle.promql_json.specs.JsonFaults.{json_fault}
 use Rattle.promql_json.specs.JsonParts.{list}
-use Rattle.promql_places.specs.PlacedForms.{node_count, param_count, placed_args, placed_value}
-use Rattle.promql_places.specs.PlacedFormSteps.{args_count, inner_count, left}
+use Rattle.promql_places.specs.PlacedForms.{placed_args}
+use Rattle.promql_places.specs.PlacedFormSteps.{args_count, inner_count, left, node_count, param_count, placed_value}
 use Rattle.promql_places.proofs.PlacedFormSteps.{after_two, args_counted, args_end, args_faults, args_rest, args_values, array_of, param_counted, sides_counted}
 use Rattle.promql_places.proofs.placed_form.+placed_form.Goals as goal
 
