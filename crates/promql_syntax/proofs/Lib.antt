@@ -1,4 +1,3 @@
-pub mod BlankModifiers
 pub mod answer
 pub mod building
 pub mod lexed

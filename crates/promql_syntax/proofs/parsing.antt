@@ -1,6 +1,7 @@
 -- How the parser reads, a file a topic.
 pub mod AtomBases
 pub mod Bases
+pub mod BlankModifiers
 pub mod Booleans
 pub mod Climbing
 pub mod Collecting

@@ -22,7 +22,7 @@ use Rattle.promql_syntax.specs.BuildErrors as errors
 use Rattle.promql_syntax.specs.PartBuilding.{string_value, number_value, signed_number, label_value, label_values, group_value, matching_value, fill_value, fills_value, modifier_value, time_value, shift_value, moment_value, on_error}
 use Rattle.promql_syntax.specs.Postfixes.{at_fault, change_value}
 use Rattle.promql_syntax.specs.PartWords.{is_blank, step_value}
-use Rattle.promql_syntax.proofs.BlankModifiers.{given_value, by_blank}
+use Rattle.promql_syntax.proofs.parsing.BlankModifiers.{given_value, by_blank}
 
 abbrev pub IsTokenFault : BuildError → Type 0
 IsTokenFault (number f) = Unit {0}

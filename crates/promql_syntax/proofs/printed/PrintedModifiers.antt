@@ -26,7 +26,7 @@ use Rattle.promql_syntax.proofs.printed.PrintedTimesAndLabels.{signed_again, sig
 use Rattle.promql_syntax.proofs.printed.PrintedWords.{labels_again, labels_formed}
 use Rattle.promql_syntax.proofs.building.SingleAnswers.{then_steps, then_leads, same_ok}
 use Rattle.promql_syntax.specs.PartWords.{cardinality, is_blank}
-use Rattle.promql_syntax.proofs.BlankModifiers.{by_blank}
+use Rattle.promql_syntax.proofs.parsing.BlankModifiers.{by_blank}
 use Rattle.promql_grammar.specs.PartTokens.{IsGroup}
 
 -- ---- what is built of written modifiers
