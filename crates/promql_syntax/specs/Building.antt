@@ -1,6 +1,6 @@
 -- What a derivation builds (docs/reference/grammar.md, "Building"): its parts first, then its own tokens, then its
 -- checks.
-use Rattle.std.specs.Prelude.{ℕ, ◌==◌, if◌then◌else◌, Option, Some, None, []}
+use Rattle.std.specs.Prelude.{◌==◌, if◌then◌else◌, Option, Some, None, []}
 use Rattle.std.specs.Option.{option_map_or}
 use Rattle.promql_text.specs.Texts.{Text}
 use Rattle.promql_text.specs.Values.{from_nanos}

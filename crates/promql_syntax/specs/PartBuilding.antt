@@ -1,6 +1,6 @@
 -- What the parts of an expression build (docs/reference/grammar.md, "Building"): each from left to right, up to its
 -- first error.
-use Rattle.std.specs.Prelude.{ℕ, Bool, true, false, if◌then◌else◌, Option, Some, None, is_some, ok_or, List, [], ◌∷◌, Result, Ok, codes}
+use Rattle.std.specs.Prelude.{ℕ, if◌then◌else◌, Option, Some, None, is_some, ok_or, List, [], ◌∷◌, Result, Ok, codes}
 use Rattle.std.specs.Option.{option_map_or}
 use Rattle.std.specs.Result.{result_map_both}
 use Rattle.promql_text.specs.Texts.{Text}

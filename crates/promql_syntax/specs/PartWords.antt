@@ -1,5 +1,5 @@
 -- Words of building for parts that stand alone. Private: nothing rests on believing it.
-use Rattle.std.specs.Prelude.{ℕ, Bool, true, false, ◌==◌, if◌then◌else◌, Option, Some, None, List, Result}
+use Rattle.std.specs.Prelude.{ℕ, Bool, true, false, ◌==◌, if◌then◌else◌, Option, None, List, Result}
 use Rattle.std.specs.Option.{option_map_or}
 use Rattle.promql_text.specs.Texts.{Text}
 use Rattle.promql_token.specs.declared.ids.TheConstants.{T_SUB}

@@ -25,7 +25,6 @@ use Rattle.promql_text.proofs.durations.ReadsDuration.{duration_reads}
 use Rattle.promql_text.proofs.numerals.ShortNumbers.{zeroless}
 use Rattle.promql_grammar.specs.Results.{◌then◌}
 use Rattle.promql_grammar.specs.GrammarParts as part
-use Rattle.promql_syntax.specs.BuildErrors.{BuildError}
 use Rattle.promql_syntax.specs.BuildErrors as errors
 use Rattle.promql_syntax.specs.PartBuilding.{string_value, number_value, signed_number, duration_value, time_value, on_error}
 use Rattle.promql_grammar.specs.GrammarParts.{is_minus}
