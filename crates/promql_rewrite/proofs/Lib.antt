@@ -1,6 +1,3 @@
-pub mod AddedChildren
-pub mod ClashingLabels
-pub mod NegatedOperands
 pub mod enforcement
 pub mod mapped
 pub mod names

@@ -1,4 +1,5 @@
 -- Other names for metrics and labels, a file a topic.
+pub mod ClashingLabels
 pub mod NameTokens
 pub mod RenamedAlike
 pub mod RenamedLists

@@ -91,7 +91,7 @@ struct Renaming<'a> {
 /// `MetricName` exactly where one of the names is `__name__`; otherwise `Clash` exactly where the names differ, and both are
 /// in the matchers of one selector, after the `by` or `without` of one aggregation, or in the lists of one operator;
 /// `Memory` where an allocation failed.
-#[tactic(auto, using(crate::proofs::ClashingLabels::clash_is))]
+#[tactic(auto, using(crate::proofs::renamed::ClashingLabels::clash_is))]
 pub fn rename_label(
     alloc: Global,
     expr: Expr,

@@ -9,7 +9,7 @@ use Rattle.promql_rewrite.specs.PrintableNodes.{HasNodeParts, IsNodePlaced}
 use Rattle.promql_rewrite.specs.PrintableTrees.{HasParts, IsPlaced}
 use Rattle.promql_rewrite.specs.Throughout.{Throughout}
 use Rattle.promql_rewrite.proofs.readback.ClosedTrees.{closed, subqueried}
-use Rattle.promql_rewrite.proofs.NegatedOperands.{negated_operand, operand_negated}
+use Rattle.promql_rewrite.proofs.rules_broken.NegatedOperands.{negated_operand, operand_negated}
 use Rattle.promql_rewrite.proofs.rules_broken.EachNode.{imply, listed, throughout}
 
 -- ---- places

@@ -10,7 +10,7 @@ use Rattle.promql_rewrite.specs.Reasons.{IsFitting}
 use Rattle.promql_rewrite.specs.declared.printable.NotPrintable.{NotPrintable}
 use Rattle.promql_rewrite.specs.declared.printable.NotPrintable.TheVariants as reason
 use Rattle.promql_rewrite.proofs.readback.ClosedTrees.{closed, subqueried}
-use Rattle.promql_rewrite.proofs.NegatedOperands.{negated_operand, operand_negated}
+use Rattle.promql_rewrite.proofs.rules_broken.NegatedOperands.{negated_operand, operand_negated}
 use Rattle.promql_rewrite.proofs.readback.Grouped.{grouped, groups}
 
 pub node_breaks : (r : NotPrintable) (t : Tree) → IsWrongNode r t → Obeys r t → ⊥

@@ -1,5 +1,5 @@
 use Rattle.promql_rewrite.specs.Parenthesizing.{parenthesized}
-use Rattle.promql_rewrite.proofs.AddedChildren.{by_children, by_node}
+use Rattle.promql_rewrite.proofs.parentheses.AddedChildren.{by_children, by_node}
 use Rattle.promql_rewrite.proofs.rules_broken.NodeParts.{placed_listed, placed_throughout}
 use Rattle.promql_rewrite.proofs.parentheses.ParenFewest.{adds, fewest}
 use Rattle.promql_rewrite.proofs.parentheses.ParenOrder.{only}

@@ -1,5 +1,5 @@
 use Rattle.promql_rewrite.specs.Renaming.{of_label, of_metric, renamed}
-use Rattle.promql_rewrite.proofs.ClashingLabels.{apart_listed}
+use Rattle.promql_rewrite.proofs.renamed.ClashingLabels.{apart_listed}
 use Rattle.promql_rewrite.proofs.readback.PrintableByNodes.{printable_apart, printable_joined}
 use Rattle.promql_rewrite.proofs.renamed.RenamedPrintable.{label_printable, metric_printable}
 use Rattle.promql_rewrite.proofs.laws.renamed_trees_are_printable.Goals as goal

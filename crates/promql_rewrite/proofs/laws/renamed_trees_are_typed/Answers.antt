@@ -1,4 +1,4 @@
-use Rattle.promql_rewrite.proofs.ClashingLabels.{apart_listed}
+use Rattle.promql_rewrite.proofs.renamed.ClashingLabels.{apart_listed}
 use Rattle.promql_rewrite.proofs.renamed.RenamedTrees.{label_typed, metric_typed}
 use Rattle.promql_rewrite.proofs.renamed.RenamedTypes.{height_renamed, type_renamed}
 use Rattle.promql_rewrite.proofs.names.SomeNames.{some_name}
