@@ -7,9 +7,6 @@ use Rattle.std.proofs.lemmas.List.Elements.{All-head, All-tail}
 use Rattle.promql_text.specs.Texts.{Text}
 use Rattle.promql_io.proofs.KnownBytes.{appends_keeps, appends_more, appends_none, consumes_more, consumes_none, whole_begun}
 use Rattle.promql_lines.specs.declared.settings.Settings.{Settings}
-use Rattle.promql_run.specs.declared.run.RunError.{RunError}
-use Rattle.promql_run.specs.declared.run.RunError.TheVariants as error
-use Rattle.promql_run.specs.Running.{UnlessWrite}
 use Rattle.promql_lines.specs.Batch.{Answer, AnswersBefore, AnswersLines, AreLines, AreWritten, BeginsToAnswer, IsLineAnswer, IsOpen, ended_lines}
 use Rattle.promql_lines.specs.BatchSteps.{HasNoFeed, HaveNoFeed, IsAll, IsAnswered, IsLineRead, IsPartRead, IsPartlyAnswered}
 use Rattle.promql_lines.specs.declared.batch.LineEnd.{LineEnd}
@@ -197,11 +194,3 @@ writing_fails settings left left_now left_after held held_now held_after line In
     begins settings left left_now left_after held held_now held_after line (ended_lines lines ++ line) all_ok so_far
     (consumes_more left left_now left_after (ended_lines lines) line so_far.read read.0)
     (last_lines lines line so_far.single read.1 read.3) part
-
-pub unless_write : (e : RunError) (P : Type 0) → P → UnlessWrite e P
-unless_write error.Write P fact = tt
-unless_write error.Memory P fact = fact
-unless_write error.Read P fact = fact
-unless_write error.NotUtf8 P fact = fact
-unless_write (error.Parse e) P fact = fact
-unless_write error.Json P fact = fact

@@ -1,9 +1,8 @@
 //! Many queries, a line each: docs/reference/programs.md.
 
-ghost use Rattle.std.specs.Prelude.{◌≡◌, ◌⊎◌, ◌++◌, [], ◌∷◌, false, true, IfOk, OnOk, IfErr, OnErr, IsErrOf, MatchResult};
+ghost use Rattle.std.specs.Prelude.{◌≡◌, ◌≢◌, ◌⊎◌, ◌++◌, [], ◌∷◌, false, true, IfOk, OnOk, IfErr, OnErr, IsErrOf, MatchResult};
 ghost use Rattle.std.specs.Io.KnownBytes.{Appends, Keeps};
 ghost use Rattle.promql_io.specs.Ended.{AppendsBeginning, has_feed};
-ghost use Rattle.promql_run.specs.Running.{UnlessRead, UnlessWrite};
 ghost use Rattle.promql_lines.specs.Batch.{AnswersBefore, AnswersLines, IsCutShort};
 ghost use Rattle.promql_lines.specs.BatchSteps.{IsLineRead, IsPartRead, IsAnswered, IsPartlyAnswered, IsReadingError, IsBatchError};
 
@@ -37,7 +36,7 @@ fn read_line<R: BufRead>(
     ensures ok { IfOk result (IsLineRead (R.remaining reader.old.inner) (R.remaining reader.new.inner) line.new.items) }
     ensures err { OnErr result (IsPartRead (R.remaining reader.old.inner) (R.remaining reader.new.inner)) }
     ensures quiet { MatchResult result (λ _. reader.new.failed ≡ reader.old.failed)
-        (λ e. UnlessRead e (reader.new.failed ≡ reader.old.failed)) }
+        (λ e. e ≢ RunError.Read → reader.new.failed ≡ reader.old.failed) }
     ensures failed { IsErrOf result RunError.Read → reader.new.failed ≡ true }
     ensures errors { IfErr result IsReadingError }
 {
@@ -131,10 +130,10 @@ pub fn run_batch<R: ReadsAhead, W: Write>(
     ensures flushed { OnOk result (writer.new.pending ≡ false) }
     ensures quiet { OnOk result (writer.new.failed ≡ writer.old.failed) }
     ensures quiet_reader { MatchResult result (λ _. reader.new.failed ≡ reader.old.failed)
-        (λ e. UnlessRead e (reader.new.failed ≡ reader.old.failed)) }
+        (λ e. e ≢ RunError.Read → reader.new.failed ≡ reader.old.failed) }
     ensures read { IsErrOf result RunError.Read → reader.new.failed ≡ true }
-    ensures before { IfErr result (λ e. UnlessWrite e (AnswersBefore settings.now (R.remaining reader.old.inner)
-        (R.remaining reader.new.inner) (W.contents writer.old.inner) (W.contents writer.new.inner))) }
+    ensures before { IfErr result (λ e. e ≢ RunError.Write → AnswersBefore settings.now (R.remaining reader.old.inner)
+        (R.remaining reader.new.inner) (W.contents writer.old.inner) (W.contents writer.new.inner)) }
     ensures write { IsErrOf result RunError.Write → writer.new.failed ≡ true }
     ensures begun { IsErrOf result RunError.Write → IsCutShort settings.now (R.remaining reader.old.inner)
         (R.remaining reader.new.inner) (W.contents writer.old.inner) (W.contents writer.new.inner) }

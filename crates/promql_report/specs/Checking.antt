@@ -32,9 +32,6 @@ abbrev pub report_text : Bool → Text → Location → Span → Text → Text
 report_text colors query location span message =
     painted colors BOLD.now (location_text location ++ codes ":") ++ codes " " ++ message ++ codes "\n" ++ marked colors GREEN.now (marked_line query span) ++ codes "\n"
 
-abbrev pub warning_text : Bool → Text
-warning_text colors = painted colors MAGENTA.now WARNING.now ++ BYTE_ESCAPE.now
-
 -- the query of a text is that, or what is before the line feed at its end
 abbrev pub IsQueryIn : Text → Text → Type 0
 IsQueryIn input query = (input ≡ query ++ codes "\n") ⊎ ((input ≡ query) × ((front : Text) → input ≢ front ++ codes "\n"))
@@ -51,15 +48,12 @@ IsSilent limits query = IsParsed limits query × (byte_escape query ≡ None)
 abbrev pub IsWarned : CheckSettings → Text → Text → Type 0
 IsWarned s warning query =
     IsParsed s.limits query
-    × ((span : Span) × (byte_escape query ≡ Some span) × (warning ≡ report_text s.colors query (location_of query span.start) span (warning_text s.colors)))
+    × ((span : Span) × (byte_escape query ≡ Some span)
+    × (warning ≡ report_text s.colors query (location_of query span.start) span (painted s.colors MAGENTA.now WARNING.now ++ BYTE_ESCAPE.now)))
 
--- this is the report of a rejection, with its message as it is shown; after that a byte order mark may be named
-abbrev pub IsReport : Bool → Text → Rejection → Text → Type 0
-IsReport colors query r report =
-    (message : Text) × (said : Text) × IsMessage query r message × ((said ≡ message) ⊎ (said ≡ message ++ BYTE_ORDER_MARK.now))
-    × (report ≡ report_text colors query r.location r.span (encode_utf8_all (visible (chars said))))
-
--- it is rejected with this status and this report
+-- it is rejected with this status, and this is its report, with the message as it is shown; after that a byte order mark may be named
 abbrev pub IsReported : CheckSettings → ℕ → Text → Text → Type 0
 IsReported s status report query =
-    (r : Rejection) × IsRejection s.limits query r × (status ≡ reason_number r.reason) × IsReport s.colors query r report
+    (r : Rejection) × IsRejection s.limits query r × (status ≡ reason_number r.reason)
+    × ((message : Text) × (said : Text) × IsMessage query r message × ((said ≡ message) ⊎ (said ≡ message ++ BYTE_ORDER_MARK.now))
+    × (report ≡ report_text s.colors query r.location r.span (encode_utf8_all (visible (chars said)))))

@@ -27,11 +27,9 @@ number_in v =
     else None
 
 abbrev pub with_option : Limits → Text → ℕ → Option Limits
-with_option limits name n =
-    if bytes_eq name (codes "--max-len") then Some (record limits { max_len = n })
-    else if bytes_eq name (codes "--max-patterns") then Some (record limits { max_pattern_size = n })
-    else if bytes_eq name (codes "--max-output") then Some (record limits { max_output = n })
-    else None
+with_option limits name n = lookup (bytes_eq name)
+    ((codes "--max-len", record limits { max_len = n }) ∷ (codes "--max-patterns", record limits { max_pattern_size = n })
+    ∷ (codes "--max-output", record limits { max_output = n }) ∷ [])
 
 -- options, each with its number; the last of one name counts
 abbrev pub limits_with : Limits → List Text → Option Limits

@@ -1,7 +1,7 @@
 //! The program that checks a query, as a function of its arguments, its input and its two outputs:
 //! docs/reference/programs.md, "One query, checked".
 
-ghost use Rattle.std.specs.Prelude.{◌≡◌, ◌⊎◌, ◌++◌, encode_utf8_all, false, true, Some, None, IfNone, IfOk, IfErr, IfSome, IsErrOf, MatchResult, map, string_bytes};
+ghost use Rattle.std.specs.Prelude.{◌≡◌, ◌≢◌, ◌⊎◌, ◌++◌, encode_utf8_all, false, true, Some, None, IfNone, IfOk, IfErr, IfSome, IsErrOf, MatchResult, map, string_bytes};
 ghost use Rattle.std.specs.Io.KnownBytes.{Appends};
 ghost use Rattle.std.specs.Str.{chars};
 ghost use Rattle.promql_text.specs.Texts.{Text};
@@ -9,12 +9,11 @@ ghost use Rattle.promql_span.specs.ByteEscapes.{byte_escape};
 ghost use Rattle.promql_span.specs.Locations.{location_of};
 ghost use Rattle.promql_span.specs.Visible.{visible};
 ghost use Rattle.promql_span.specs.declared.span.Span.{Span};
-ghost use Rattle.promql_report.specs.Checking.{HasQuery, IsQueryIn, IsReport, IsReported, IsSilent, IsWarned, check_command, report_text, warning_text};
-ghost use Rattle.promql_report.specs.CheckedInputs.{IsChecked};
+ghost use Rattle.promql_report.specs.Checking.{HasQuery, IsQueryIn, IsReported, IsSilent, IsWarned, check_command, report_text};
+ghost use Rattle.promql_report.specs.CheckedInputs.{IsChecked, IsReport, warning_text};
 ghost use Rattle.promql_report.specs.declared.check_settings.CheckSettings as checks;
 ghost use Rattle.promql_run.specs.Programs.{Obeys, Reads, run};
 ghost use Rattle.promql_io.specs.Inputs.{IsInput, IsNotUtf8};
-ghost use Rattle.promql_run.specs.Running.{UnlessRead};
 ghost use Rattle.promql_run.specs.StepErrors.{IsInputError};
 
 use crate::check_settings::{CheckSettings, settings_of};
@@ -221,7 +220,7 @@ fn check_input<R: Read>(
     ensures ok { IfOk result (λ found. IsInput (λ text. IsChecked settings.now text found)
         (R.remaining reader.old.inner) (R.remaining reader.new.inner)) }
     ensures quiet { MatchResult result (λ _. reader.new.failed ≡ reader.old.failed)
-        (λ e. UnlessRead e (reader.new.failed ≡ reader.old.failed)) }
+        (λ e. e ≢ RunError.Read → reader.new.failed ≡ reader.old.failed) }
     ensures read { IsErrOf result RunError.Read → reader.new.failed ≡ true }
     ensures not_utf8 { IsErrOf result RunError.NotUtf8
         → IsNotUtf8 (R.remaining reader.old.inner) (R.remaining reader.new.inner) }

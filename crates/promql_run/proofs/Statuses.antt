@@ -1,18 +1,14 @@
 -- A status tells its error.
-use Rattle.std.proofs.Common.{◌≡◌, ◌⊎◌, ℕ, inl, inr, refl, sym}
+use Rattle.std.proofs.Common.{◌≡◌, ◌⊎◌, ℕ, ap, inl, inr, refl, sym}
+use Rattle.std.specs.Prelude.{◌≢◌}
 use Rattle.promql_syntax.specs.declared.parser.ParseError.{ParseError}
 use Rattle.promql_run.specs.declared.run.RunError.{RunError}
 use Rattle.promql_run.specs.declared.run.RunError.TheVariants.{Memory, Read, NotUtf8, Parse, Write, Json}
-use Rattle.promql_run.specs.Running.{UnlessRead, UnlessWrite, error_number}
+use Rattle.promql_run.specs.Running.{error_number}
 
 -- where the status is another one than that of a failed read
-pub not_two : (e : RunError) (fact : Type 0) → ¬ (error_number e ≡ 2) → UnlessRead e fact → fact
-not_two Read fact other holds = absurd (other refl)
-not_two Memory fact other holds = holds
-not_two NotUtf8 fact other holds = holds
-not_two (Parse p) fact other holds = holds
-not_two Write fact other holds = holds
-not_two Json fact other holds = holds
+pub not_two : (e : RunError) (fact : Type 0) → ¬ (error_number e ≡ 2) → (e ≢ Read → fact) → fact
+not_two e fact other holds = holds (λ is. other (ap error_number is))
 
 pub four_is_parse : (e : RunError) → error_number e ≡ 4 → (p : ParseError) × (e ≡ Parse p)
 four_is_parse (Parse p) four = (p, refl)
@@ -39,13 +35,8 @@ none_is_zero Write zero = cc
 none_is_zero Json zero = cc
 
 -- where it is another one than that of a failed write
-pub not_five : (e : RunError) (fact : Type 0) → ¬ (error_number e ≡ 5) → UnlessWrite e fact → fact
-not_five Write fact other holds = absurd (other refl)
-not_five Memory fact other holds = holds
-not_five Read fact other holds = holds
-not_five NotUtf8 fact other holds = holds
-not_five (Parse p) fact other holds = holds
-not_five Json fact other holds = holds
+pub not_five : (e : RunError) (fact : Type 0) → ¬ (error_number e ≡ 5) → (e ≢ Write → fact) → fact
+not_five e fact other holds = holds (λ is. other (ap error_number is))
 
 pub two_is_read : (e : RunError) → error_number e ≡ 2 → e ≡ Read
 two_is_read Read two = refl

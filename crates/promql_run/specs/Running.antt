@@ -54,13 +54,3 @@ FailsToPrint format _ text = ⊥
 abbrev pub failure_of : RunError → ℕ × Option PlainParseError
 failure_of (error.Parse e) = (4, Some (plain_error_of e))
 failure_of e = (error_number e, None)
-
--- the fact, for each error but a failed read
-abbrev pub UnlessRead : RunError → Type 0 → Type 0
-UnlessRead error.Read fact = Unit {0}
-UnlessRead _ fact = fact
-
--- the fact, for each error but a failed write
-abbrev pub UnlessWrite : RunError → Type 0 → Type 0
-UnlessWrite error.Write fact = Unit {0}
-UnlessWrite _ fact = fact

@@ -1,11 +1,11 @@
 //! From the bytes of a reader to the bytes of a writer.
 
-ghost use Rattle.std.specs.Prelude.{◌≡◌, true, false, OnOk, IfOk, IfErr, IsErrOf, MatchResult, string_bytes};
+ghost use Rattle.std.specs.Prelude.{◌≡◌, ◌≢◌, true, false, OnOk, IfOk, IfErr, IsErrOf, MatchResult, string_bytes};
 ghost use Rattle.std.specs.Io.KnownBytes.{Appends};
 ghost use Rattle.promql_syntax.specs.declared.parser.ParseError.{ParseError};
 ghost use Rattle.promql_io.specs.Ended.{AppendsBeginning};
 ghost use Rattle.promql_io.specs.Inputs.{AnswersInput, HasRead, IsInput, IsNotUtf8};
-ghost use Rattle.promql_run.specs.Running.{FailsToPrint, IsPrinted, UnlessRead, UnlessWrite, error_number};
+ghost use Rattle.promql_run.specs.Running.{FailsToPrint, IsPrinted, error_number};
 ghost use Rattle.promql_run.specs.StepErrors.{IsInputError, IsAnswerError};
 
 use crate::format::Format;
@@ -91,7 +91,7 @@ pub fn read_text<R: Read>(alloc: Global, reader: &mut Ended<R>) -> Result<String
     ensures not_utf8 { IsErrOf result RunError.NotUtf8
         → IsNotUtf8 (R.remaining reader.old.inner) (R.remaining reader.new.inner) }
     ensures quiet { MatchResult result (λ _. reader.new.failed ≡ reader.old.failed)
-        (λ e. UnlessRead e (reader.new.failed ≡ reader.old.failed)) }
+        (λ e. e ≢ RunError.Read → reader.new.failed ≡ reader.old.failed) }
     ensures failed { IsErrOf result RunError.Read → reader.new.failed ≡ true }
     ensures errors { IfErr result IsInputError }
 {
@@ -138,7 +138,7 @@ pub fn run<R: Read, W: Write>(
     ensures flushed { OnOk result (writer.new.pending ≡ false) }
     // No read failed but for `Read`, and no write but for `Write`.
     ensures quiet_reader { MatchResult result (λ _. reader.new.failed ≡ reader.old.failed)
-        (λ e. UnlessRead e (reader.new.failed ≡ reader.old.failed)) }
+        (λ e. e ≢ RunError.Read → reader.new.failed ≡ reader.old.failed) }
     ensures quiet_writer { OnOk result (writer.new.failed ≡ writer.old.failed) }
     ensures read { IsErrOf result RunError.Read → reader.new.failed ≡ true }
     ensures write { IsErrOf result RunError.Write → writer.new.failed ≡ true }
@@ -150,7 +150,7 @@ pub fn run<R: Read, W: Write>(
     ensures json { IsErrOf result RunError.Json → IsInput (FailsToPrint format RunError.Json)
         (R.remaining reader.old.inner) (R.remaining reader.new.inner) }
     // Nothing was written before the whole answer was made, and nothing but a beginning of it where a write failed.
-    ensures unwritten { IfErr result (λ e. UnlessWrite e (writer.new ≡ writer.old)) }
+    ensures unwritten { IfErr result (λ e. e ≢ RunError.Write → writer.new ≡ writer.old) }
     ensures begun { IsErrOf result RunError.Write → AnswersInput (IsPrinted format) (R.remaining reader.old.inner)
         (R.remaining reader.new.inner) (AppendsBeginning (W.contents writer.old.inner) (W.contents writer.new.inner)) }
 {

@@ -1,7 +1,7 @@
 use Rattle.std.proofs.Common.{◌≡◌, ap, refl, subst, sym, ◌∙◌, inl, inr}
 use Rattle.std.specs.Prelude.{◌&&◌, Some}
 use Rattle.promql_io.proofs.KnownBytes.{always_if_err}
-use Rattle.promql_lines.proofs.Batches.{Progress, answered_kept, answered_partly, input_ends, last_line_ends, line_more, nothing_yet, reading_fails, unless_write, writing_fails}
+use Rattle.promql_lines.proofs.Batches.{Progress, answered_kept, answered_partly, input_ends, last_line_ends, line_more, nothing_yet, reading_fails, writing_fails}
 use Rattle.promql_lines.specs.Batch.{AnswersLines}
 use Rattle.promql_lines.specs.BatchSteps.{IsAnswered, IsLineRead, IsPartlyAnswered}
 use Rattle.promql_lines.specs.declared.batch.LineEnd.TheVariants.{Feed}
@@ -14,7 +14,7 @@ lines-init g c = record { quiet = refl; heard = refl; so_far = nothing_yet _ _ _
 pub returns-in_err-end-clause-before : goal.returns-in_err-end-clause-before
 returns-in_err-end-clause-before g c =
     always_if_err _ c.from_residual.result
-    (λ e. unless_write e _ (reading_fails _ _ _ _ _ _ c.lines.all_ok c.lines.invariant.so_far c.in_err-end.ensures.err))
+    (λ e other. reading_fails _ _ _ _ _ _ c.lines.all_ok c.lines.invariant.so_far c.in_err-end.ensures.err)
 
 pub returns-in-None-clause-ok : goal.returns-in-None-clause-ok
 returns-in-None-clause-ok g c =
