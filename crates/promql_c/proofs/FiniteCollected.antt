@@ -7,7 +7,8 @@ use Rattle.serde_json.specs.View.{items_of}
 use Rattle.serde_json.specs.Written.{has_float, items_have_float}
 use Rattle.promql_text.specs.Texts.{Text}
 use Rattle.promql_rewrite.specs.Collecting.{Selection, selected}
-use Rattle.promql_c.specs.CollectedJson.{collected_value, selector_value, texts}
+use Rattle.promql_c.specs.CollectedJson.{collected_value, selector_value}
+use Rattle.promql_lines.specs.Batch.{texts}
 use Rattle.promql_c.specs.PlacesText.{span_value}
 use Rattle.promql_span.specs.declared.span.Span.{Span}
 use Rattle.promql_json.specs.JsonParts.{list, or_null}

@@ -11,24 +11,18 @@ pub record IsStored (text : Text) (old new : List ℕ) : Type 0 where
   pub fits : length text ≤ length old → new ≡ text ++ drop (length text) old
   pub is_long : length old < length text → new ≡ old
 
--- "Statuses": of a text, by its length and the size of the buffer
-abbrev pub text_status : ℕ → ℕ → ℕ
-text_status count size = if nat_le count size then 0 else 8
-
 -- the result of this status and length, with the place of a query that is rejected
 abbrev pub placed_result : ℕ → ℕ → Option Rejection → CallResult
 placed_result status count None = record { status = status; length = count; start = 0; end = 0; line = 0; column = 0 }
 placed_result status count (Some r) =
     record { status = status; length = count; start = r.span.start; end = r.span.end; line = r.location.line; column = r.location.column }
 
--- the result of an error whose message has so many bytes
-abbrev pub error_result : QueryError → ℕ → CallResult
-error_result e count = placed_result (query_error_number e) count (option_map (λ r. r.rejection) (rejected_in e))
-
--- what a call returns and leaves in the buffer where it made this of the query: a text, or an error, which has some message
+-- what a call returns and leaves in the buffer where it made this of the query: a text, or an error, which has some message;
+-- "Statuses": that of a text tells whether it fits
 abbrev pub Shows : Result Text QueryError → CallResult → List ℕ → List ℕ → Type 0
-Shows (Ok text) r old new = (r ≡ placed_result (text_status (length text) (length old)) (length text) None) × IsStored text old new
-Shows (Err e) r old new = (message : Text) × (r ≡ error_result e (length message)) × IsStored message old new
+Shows (Ok text) r old new = (r ≡ placed_result (if nat_le (length text) (length old) then 0 else 8) (length text) None) × IsStored text old new
+Shows (Err e) r old new =
+    (message : Text) × (r ≡ placed_result (query_error_number e) (length message) (option_map (λ r. r.rejection) (rejected_in e))) × IsStored message old new
 
 -- the same, where it made something that is so
 abbrev pub ShowsSome : (Result Text QueryError → Type 0) → CallResult → List ℕ → List ℕ → Type 0

@@ -1,5 +1,5 @@
 -- What each call makes of a query (docs/guide/bindings.md, "Calls").
-use Rattle.std.specs.Prelude.{◌≡◌, ◌⊎◌, Bool, true, false, [], Option, Some, None, Result, Err, MatchResult}
+use Rattle.std.specs.Prelude.{◌≡◌, ◌⊎◌, Bool, if◌then◌else◌, [], Option, Some, None, Result, Err}
 use Rattle.std.specs.Str.{IsUtf8}
 use Rattle.serde_json.specs.Written.{compact_text}
 use Rattle.promql_text.specs.Texts.{Text}
@@ -7,24 +7,21 @@ use Rattle.promql_span.specs.declared.span.Span.{Span}
 use Rattle.promql_ast.specs.Tree.{Tree}
 use Rattle.promql_span.specs.declared.limits.Limits.{Limits}
 use Rattle.promql_rewrite.specs.declared.matcher_text.MatcherError.TheVariants as matcher_error
-use Rattle.promql_rewrite.specs.Renaming.{Renaming}
 use Rattle.promql_report.specs.Checking.{marked_line}
-use Rattle.promql_report.specs.Rejecting.{IsMessage, IsParsed, IsRead, IsRejection, reason_number}
-use Rattle.promql_report.specs.declared.rejection.Rejection.{Rejection}
-use Rattle.promql_lines.specs.Batch.{rejection_object}
+use Rattle.promql_report.specs.Rejecting.{IsMessage, IsParsed, IsRejection, reason_number}
+use Rattle.promql_lines.specs.Batch.{error_value}
 use Rattle.promql_lines.specs.Telling.{IsToldWith}
 use Rattle.promql_lines.specs.declared.rejected_query.RejectedQuery.{RejectedQuery}
-use Rattle.promql_lines.specs.EnforcedLines.{FailsToEnforce, IsEnforcedLine}
-use Rattle.promql_lines.specs.FormattedQueries.{FailsToFormat, IsFormattedQuery}
-use Rattle.promql_lines.specs.QueryErrors.{Gives, GivesOr, HasNoTree, IsPlacedPrint, IsPrintOfTree}
-use Rattle.promql_lines.specs.RenamedLines.{FailsToShowRenamed, IsRenamedLine, renaming}
+use Rattle.promql_lines.specs.EnforcedLines.{IsEnforcedLine}
+use Rattle.promql_lines.specs.FormattedQueries.{IsFormattedQuery}
+use Rattle.promql_lines.specs.QueryErrors.{Gives, IsOutput, OfTree, Prints, Then}
+use Rattle.promql_lines.specs.RenamedLines.{IsRenamedLine, renaming}
 use Rattle.promql_lines.specs.declared.query_error.QueryError.{QueryError}
 use Rattle.promql_lines.specs.declared.query_error.QueryError.TheVariants as error
 use Rattle.promql_lines.specs.declared.renamed_line.Named.{Named}
-use Rattle.promql_lines.specs.TreeTexts.{FailsToShowForm, IsTextOfForm}
+use Rattle.promql_lines.specs.TreeTexts.{PrintsForm}
 use Rattle.promql_run.specs.declared.format.Format.{Format}
 use Rattle.promql_lines.specs.declared.mode.Mode.{Mode}
-use Rattle.promql_lines.specs.declared.mode.Mode.TheVariants as modes
 
 -- ---- what is made of bytes: a text, or an error
 
@@ -37,75 +34,46 @@ abbrev pub OfMode : {A : Type 0} → (A → Result Text QueryError → Type 0) �
 OfMode IsMade None made = made ≡ Err error.UnknownMode
 OfMode IsMade (Some mode) made = IsMade mode made
 
--- of a query that has a tree; of others it is said why they have none
-abbrev pub OfTree : (Tree → Result Text QueryError → Type 0) → Limits → Text → Result Text QueryError → Type 0
-OfTree IsMade limits query made =
-    ((e : QueryError) × HasNoTree limits query e × (made ≡ Err e)) ⊎ ((t : Tree) × IsRead limits query t × IsMade t made)
-
 -- ---- the calls
-
--- the text of this query's tree in the mode
-abbrev pub PrintsMode : Limits → Text → Mode → Tree → Result Text QueryError → Type 0
-PrintsMode limits query (modes.Plain format) = IsPrintOfTree limits format
-PrintsMode limits query modes.Placed = IsPlacedPrint limits query
 
 -- "print": the text in the mode
 abbrev pub IsPrintOf : Limits → Text → Option Mode → Result Text QueryError → Type 0
-IsPrintOf limits query = OfMode (λ m. OfTexts (IsUtf8 query) (OfTree (PrintsMode limits query m) limits query))
+IsPrintOf limits query = OfMode (λ m. OfTexts (IsUtf8 query) (OfTree limits query (Prints limits query m)))
 
 -- "enforce": the line with the matcher in every selector; one that is not valid UTF-8 is none, which counts only where the query has a
 -- tree
-abbrev pub Enforces : Limits → Text → Text → Result Text QueryError → Type 0
-Enforces limits query matcher made =
-    (IsUtf8 matcher × MatchResult made (IsEnforcedLine limits query matcher) (FailsToEnforce limits query matcher))
-    ⊎ ((¬ IsUtf8 matcher) × OfTree (λ t made. made ≡ Err (error.Matcher matcher_error.NotAMatcher)) limits query made)
-
 abbrev pub IsEnforceOf : Limits → Text → Text → Result Text QueryError → Type 0
-IsEnforceOf limits query matcher = OfTexts (IsUtf8 query) (Enforces limits query matcher)
+IsEnforceOf limits query matcher = OfTexts (IsUtf8 query) (λ made. (IsUtf8 matcher × IsEnforcedLine limits query matcher made)
+    ⊎ ((¬ IsUtf8 matcher) × OfTree limits query (λ t made. made ≡ Err (error.Matcher matcher_error.NotAMatcher)) made))
 
 -- "rename": the line with a new name for a metric or a label
-abbrev pub Renames : Limits → Text → Renaming → Result Text QueryError → Type 0
-Renames limits query r made = MatchResult made (IsRenamedLine limits query r) (FailsToShowRenamed limits query r)
+abbrev pub IsRenameOf : Limits → Text → Text → Text → Option Named → Result Text QueryError → Type 0
+IsRenameOf limits query from to =
+    OfMode (λ named. OfTexts (IsUtf8 query × IsUtf8 from × IsUtf8 to) (IsRenamedLine limits query (renaming named from to)))
 
-abbrev pub IsRenameOf : Limits → Text → Option Named → Text → Text → Result Text QueryError → Type 0
-IsRenameOf limits query asked from to =
-    OfMode (λ named. OfTexts (IsUtf8 query × IsUtf8 from × IsUtf8 to) (Renames limits query (renaming named from to))) asked
-
--- "collect", "places" and "check": such a text of the query's tree
+-- "collect", "places" and "check": such a text of the query's tree; where it is checked, no text
 abbrev pub IsTextOf : (Tree → Text → Type 0) → Limits → Text → Result Text QueryError → Type 0
-IsTextOf Is limits query = OfTexts (IsUtf8 query) (OfTree (λ t. Gives (Is t)) limits query)
+IsTextOf Is limits query = OfTexts (IsUtf8 query) (OfTree limits query (λ t. Gives (Is t) (λ e. ⊥)))
 
--- where a query is checked
-abbrev pub IsNothing : Tree → Text → Type 0
-IsNothing t text = text ≡ []
-
--- the message of a rejection for people, or the object of JSON that has it as its `error`, beside the place and what was expected
-abbrev pub IsExplanation : Bool → Text → Rejection → Text → Type 0
-IsExplanation false query r text = IsMessage query r text
-IsExplanation true query r text =
-    (told : RejectedQuery) × (told.rejection ≡ r) × IsToldWith query told
-    × ((message : Text) × IsMessage query r message × (text ≡ compact_text (rejection_object (reason_number r.reason) message told)))
-
--- "explain": an empty text where the query has a tree, else why it is rejected
+-- "explain": an empty text where the query has a tree; else the message of the rejection for people, or the object of JSON that has it as
+-- its `error`, beside the place and what was expected
 abbrev pub Explains : Limits → Bool → Text → Text → Type 0
 Explains limits as_json query text =
-    (IsParsed limits query × (text ≡ [])) ⊎ ((r : Rejection) × IsRejection limits query r × IsExplanation as_json query r text)
+    (IsParsed limits query × (text ≡ []))
+    ⊎ ((r : RejectedQuery) × IsRejection limits query r.rejection × IsToldWith query r × ((message : Text) × IsMessage query r.rejection message
+    × (text ≡ (if as_json then compact_text (error_value (reason_number r.rejection.reason) message (Some r)) else message))))
 
 abbrev pub IsExplainOf : Limits → Bool → Text → Result Text QueryError → Type 0
-IsExplainOf limits as_json query = OfTexts (IsUtf8 query) (Gives (Explains limits as_json query))
+IsExplainOf limits as_json query = OfTexts (IsUtf8 query) (Gives (Explains limits as_json query) (λ e. ⊥))
 
 -- "snippet": the line where the span begins, with its mark below
 abbrev pub IsSnippetOf : Text → Span → Result Text QueryError → Type 0
-IsSnippetOf query span = OfTexts (IsUtf8 query) (Gives (λ text. text ≡ marked_line query span))
+IsSnippetOf query span = OfTexts (IsUtf8 query) (Gives (λ text. text ≡ marked_line query span) (λ e. ⊥))
 
 -- "print a tree": the text of the tree of this form
-abbrev pub PrintsForm : Limits → Text → Bool → Format → Result Text QueryError → Type 0
-PrintsForm limits form parens format = GivesOr (FailsToShowForm limits parens form) limits (IsTextOfForm limits format parens form)
-
-abbrev pub IsTreePrintOf : Limits → Text → Option Format → Bool → Result Text QueryError → Type 0
-IsTreePrintOf limits form asked parens = OfMode (λ format. OfTexts (IsUtf8 form) (PrintsForm limits form parens format)) asked
+abbrev pub IsTreePrintOf : Limits → Text → Bool → Option Format → Result Text QueryError → Type 0
+IsTreePrintOf limits form parens = OfMode (λ format. OfTexts (IsUtf8 form) (Then (PrintsForm limits format parens form) (IsOutput limits)))
 
 -- "format": a layout for people, which has the query's tree and its comments
 abbrev pub IsFormattedOf : Limits → Bool → Text → Result Text QueryError → Type 0
-IsFormattedOf limits keeps query =
-    OfTexts (IsUtf8 query) (GivesOr (FailsToFormat limits query) limits (IsFormattedQuery limits keeps query))
+IsFormattedOf limits keeps query = OfTexts (IsUtf8 query) (Then (IsFormattedQuery limits keeps query) (IsOutput limits))

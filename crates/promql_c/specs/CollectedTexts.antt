@@ -7,11 +7,8 @@ use Rattle.promql_rewrite.specs.Collecting.{IsSetOf, from_nodes, own_functions, 
 use Rattle.promql_c.specs.CollectedJson.{collected_value}
 
 -- the functions, labels and metrics of the tree, each once and in byte order, and its selectors, in the order of the text
-pub record IsCollectedText (t : Tree) (text : Text) : Type 0 where
-  pub functions : List Text
-  pub called : IsSetOf (from_nodes own_functions t) functions
-  pub labels : List Text
-  pub listed : IsSetOf (from_nodes own_labels t) labels
-  pub metrics : List Text
-  pub named : IsSetOf (from_nodes own_metrics t) metrics
-  pub is : text ≡ compact_text (collected_value functions labels metrics (from_nodes own_selectors t))
+abbrev pub IsCollectedText : Tree → Text → Type 0
+IsCollectedText t text =
+    (functions : List Text) × (labels : List Text) × (metrics : List Text)
+    × IsSetOf (from_nodes own_functions t) functions × IsSetOf (from_nodes own_labels t) labels × IsSetOf (from_nodes own_metrics t) metrics
+    × (text ≡ compact_text (collected_value functions labels metrics (from_nodes own_selectors t)))

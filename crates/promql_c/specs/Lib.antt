@@ -1,5 +1,6 @@
 pub mod CallResults
 pub mod Calls
+pub mod CallSteps
 pub mod CollectedJson
 pub mod CollectedParts
 pub mod CollectedTexts

@@ -1,8 +1,9 @@
 //! What a call returns, and what it writes into its caller's buffer.
 
-ghost use Rattle.std.specs.Prelude.{◌≡◌, None, Some, Ok, Err, string_bytes};
+ghost use Rattle.std.specs.Prelude.{◌≡◌, None, Some, Ok, Err, if◌then◌else◌, nat_le, option_map, string_bytes};
 ghost use Rattle.promql_grammar.specs.Results.{on_result};
-ghost use Rattle.promql_c.specs.CallResults.{IsStored, Shows, error_result, placed_result, text_status};
+ghost use Rattle.promql_c.specs.CallResults.{IsStored, Shows, placed_result};
+ghost use Rattle.promql_lines.specs.QueryErrors.{query_error_number, rejected_in};
 
 use promql_lines::query_error::QueryError;
 use promql_report::rejection::Rejection;
@@ -38,7 +39,7 @@ fn store(text: &str, buffer: &mut [u8])
 
 /// The status of a text of this length for a buffer of this size.
 fn status_of(length: usize, size: usize) -> u32
-    ensures { result ≡ text_status length size }
+    ensures { result ≡ (if nat_le length size then 0 else 8) }
 {
     if length <= size { 0 } else { 8 }
 }
@@ -74,7 +75,7 @@ fn placed(status: u32, length: usize, rejection: &Rejection) -> CallResult
 
 /// The result of an error whose message has this length.
 fn result_of(error: &QueryError, length: usize) -> CallResult
-    ensures { result ≡ error_result error.now length }
+    ensures { result ≡ placed_result (query_error_number error.now) length (option_map (λ r. r.rejection) (rejected_in error.now)) }
 {
     let status = u32::from(error.number());
     match error.rejected_query() {

@@ -1,8 +1,8 @@
 //! The calls: from the bytes of a query into a caller's buffer. docs/guide/bindings.md, "Calls", has the rules.
 
-ghost use Rattle.std.specs.Prelude.{◌==◌, not, Some, Ok};
+ghost use Rattle.std.specs.Prelude.{◌≡◌, ◌==◌, [], not, Some, Ok};
 ghost use Rattle.promql_c.specs.CallResults.{Shows, ShowsSome};
-ghost use Rattle.promql_c.specs.Calls.{IsEnforceOf, IsExplainOf, IsFormattedOf, IsNothing, IsPrintOf, IsRenameOf, IsSnippetOf, IsTextOf, IsTreePrintOf};
+ghost use Rattle.promql_c.specs.Calls.{IsEnforceOf, IsExplainOf, IsFormattedOf, IsPrintOf, IsRenameOf, IsSnippetOf, IsTextOf, IsTreePrintOf};
 ghost use Rattle.promql_c.specs.CollectedTexts.{IsCollectedText};
 ghost use Rattle.promql_c.specs.Formats.{format_numbered, mode_numbered, named_numbered};
 ghost use Rattle.promql_c.specs.PlacesText.{IsPlacesText};
@@ -81,7 +81,7 @@ pub fn rename(
     to: &[u8],
     buffer: &mut [u8],
 ) -> CallResult
-    ensures { ShowsSome (IsRenameOf limits.now query.now (named_numbered kind) from.now to.now) result buffer.old buffer.new }
+    ensures { ShowsSome (IsRenameOf limits.now query.now from.now to.now (named_numbered kind)) result buffer.old buffer.new }
 {
     let made = rename_query(alloc, limits, query, named_of(kind), from, to);
     show(alloc, made, buffer)
@@ -106,7 +106,7 @@ pub fn places(alloc: Global, limits: &Limits, query: &[u8], buffer: &mut [u8]) -
 
 /// Checks a query: an empty text where it is accepted, and else the error and its place.
 pub fn check(alloc: Global, limits: &Limits, query: &[u8], buffer: &mut [u8]) -> CallResult
-    ensures { ShowsSome (IsTextOf IsNothing limits.now query.now) result buffer.old buffer.new }
+    ensures { ShowsSome (IsTextOf (λ t text. text ≡ []) limits.now query.now) result buffer.old buffer.new }
 {
     let made = check_query(alloc, limits, query);
     show(alloc, made, buffer)
@@ -156,7 +156,7 @@ pub fn print_tree(
     parentheses: u32,
     buffer: &mut [u8],
 ) -> CallResult
-    ensures { ShowsSome (IsTreePrintOf limits.now form.now (format_numbered mode level width) (not (parentheses == 0)))
+    ensures { ShowsSome (IsTreePrintOf limits.now form.now (not (parentheses == 0)) (format_numbered mode level width))
         result buffer.old buffer.new }
 {
     let made = print_form(

@@ -8,9 +8,10 @@ ghost use Rattle.promql_grammar.specs.Results.{on_result};
 ghost use Rattle.promql_ast.specs.Shifts.{moment_of, shift_of};
 ghost use Rattle.promql_ast.specs.View.{tree_of};
 ghost use Rattle.promql_rewrite.specs.Collecting.{selected_of};
-ghost use Rattle.promql_lines.specs.QueryErrors.{Gives};
-ghost use Rattle.promql_c.specs.Calls.{IsTextOf, OfTree};
+ghost use Rattle.promql_lines.specs.QueryErrors.{Gives, OfTree};
+ghost use Rattle.promql_c.specs.Calls.{IsTextOf};
 ghost use Rattle.promql_c.specs.CollectedJson as spec;
+ghost use Rattle.promql_lines.specs.Batch as batch;
 ghost use Rattle.promql_c.specs.CollectedParts as part;
 ghost use Rattle.promql_c.specs.CollectedTexts.{IsCollectedText};
 
@@ -26,7 +27,7 @@ use std::time::Duration;
 
 /// A list of texts.
 fn texts_value(alloc: Global, texts: &[String]) -> Result<Value, AllocError>
-    ensures { IfOk result (λ v. view v ≡ spec.texts (map string_bytes texts.now)) }
+    ensures { IfOk result (λ v. view v ≡ batch.texts (map string_bytes texts.now)) }
 {
     let mut list = Vec::with_capacity(alloc, texts.len())?;
     for text in texts {
@@ -132,7 +133,7 @@ pub(crate) fn value_text(alloc: Global, value: Value) -> Result<String, AllocErr
 
 /// The JSON of what a text's query names.
 fn collect_text(alloc: Global, limits: &Limits, query: &str) -> Result<String, QueryError>
-    ensures { OfTree (λ t. Gives (IsCollectedText t)) limits.now query.now (on_result (λ s. string_bytes s) result) }
+    ensures { OfTree limits.now query.now (λ t. Gives (IsCollectedText t) (λ e. ⊥)) (on_result (λ s. string_bytes s) result) }
 {
     let expr = match query_tree(alloc, limits, query) {
         Ok(expr) => expr,

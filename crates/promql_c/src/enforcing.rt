@@ -4,7 +4,8 @@ ghost use Rattle.std.specs.Prelude.{Err, string_bytes};
 ghost use Rattle.std.specs.Str.{IsUtf8};
 ghost use Rattle.promql_text.specs.Texts.{Text};
 ghost use Rattle.promql_grammar.specs.Results.{on_result};
-ghost use Rattle.promql_c.specs.Calls.{Enforces, IsEnforceOf};
+ghost use Rattle.promql_c.specs.Calls.{IsEnforceOf};
+ghost use Rattle.promql_c.specs.CallSteps.{EnforcesBytes};
 
 use promql_lines::enforced_line::enforced_line;
 use promql_lines::query_error::QueryError;
@@ -15,7 +16,7 @@ use std::alloc::Global;
 
 /// Why a text's query has no line with a matcher that is not valid UTF-8: the query is read before its matcher.
 fn error_of_broken_matcher(alloc: Global, limits: &Limits, query: &str) -> QueryError
-    ensures { (matcher : Text) → ¬ IsUtf8 matcher → Enforces limits.now query.now matcher (Err result) }
+    ensures { (matcher : Text) → ¬ IsUtf8 matcher → EnforcesBytes limits.now query.now matcher (Err result) }
 {
     match query_tree(alloc, limits, query) {
         Ok(_) => QueryError::Matcher(MatcherError::NotAMatcher),
@@ -30,7 +31,7 @@ fn enforce_text(
     query: &str,
     matcher: &[u8],
 ) -> Result<String, QueryError>
-    ensures { Enforces limits.now query.now matcher.now (on_result (λ s. string_bytes s) result) }
+    ensures { EnforcesBytes limits.now query.now matcher.now (on_result (λ s. string_bytes s) result) }
 {
     match str::from_utf8(matcher) {
         Ok(matcher) => enforced_line(alloc, limits, query, matcher),

@@ -2,8 +2,10 @@
 
 ghost use Rattle.std.specs.Prelude.{IfOk, string_bytes};
 ghost use Rattle.promql_grammar.specs.Results.{on_result};
+ghost use Rattle.promql_report.specs.Rejecting.{IsRejection};
+ghost use Rattle.promql_span.specs.declared.limits.Limits as spans;
 ghost use Rattle.promql_lines.specs.QueryErrors.{Gives};
-ghost use Rattle.promql_c.specs.Calls.{Explains, IsExplainOf, IsExplanation};
+ghost use Rattle.promql_c.specs.Calls.{Explains, IsExplainOf};
 
 use promql_ast::drop_expr;
 use promql_lines::query_error::QueryError;
@@ -19,7 +21,8 @@ fn explanation(
     rejection: Rejection,
     as_json: bool,
 ) -> Result<String, AllocError>
-    ensures { IfOk result (λ s. IsExplanation as_json query.now rejection (string_bytes s)) }
+    ensures { (limits : spans.Limits) → IsRejection limits query.now rejection
+        → IfOk result (λ s. Explains limits as_json query.now (string_bytes s)) }
 {
     let rejected = RejectedQuery::new(alloc, query, rejection)?;
     let message = rejected.message(alloc)?;
@@ -37,7 +40,7 @@ fn explain_text(
     text: &str,
     as_json: bool,
 ) -> Result<String, QueryError>
-    ensures { Gives (Explains limits.now as_json text.now) (on_result (λ s. string_bytes s) result) }
+    ensures { Gives (Explains limits.now as_json text.now) (λ e. ⊥) (on_result (λ s. string_bytes s) result) }
 {
     match read_query(alloc, limits, text) {
         Ok(Ok(expr)) => {

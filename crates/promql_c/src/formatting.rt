@@ -2,8 +2,8 @@
 
 ghost use Rattle.std.specs.Prelude.{string_bytes};
 ghost use Rattle.promql_grammar.specs.Results.{on_result};
-ghost use Rattle.promql_lines.specs.FormattedQueries.{FailsToFormat, IsFormattedQuery};
-ghost use Rattle.promql_lines.specs.QueryErrors.{GivesOr};
+ghost use Rattle.promql_lines.specs.FormattedQueries.{IsFormattedQuery};
+ghost use Rattle.promql_lines.specs.QueryErrors.{IsOutput, Then};
 ghost use Rattle.promql_c.specs.Calls.{IsFormattedOf};
 
 use promql_formatter::FormatOptions;
@@ -20,7 +20,7 @@ fn format_text(
     options: &FormatOptions,
     text: &str,
 ) -> Result<String, QueryError>
-    ensures { GivesOr (FailsToFormat limits.now text.now) limits.now (IsFormattedQuery limits.now options.now.keep_spelling text.now)
+    ensures { Then (IsFormattedQuery limits.now options.now.keep_spelling text.now) (IsOutput limits.now)
         (on_result (λ s. string_bytes s) result) }
 {
     match formatted_query(alloc, limits, options, text) {

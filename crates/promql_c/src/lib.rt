@@ -2,10 +2,10 @@
 //! name by which bindings/c/promql.c calls it, once it has looked at the pointers.
 #![tactic(auto)]
 
-ghost use Rattle.std.specs.Prelude.{◌==◌, not, Some, Ok};
+ghost use Rattle.std.specs.Prelude.{◌≡◌, ◌==◌, [], not, Some, Ok};
 ghost use Rattle.promql_run.specs.declared.format.Format.TheVariants.{Line};
 ghost use Rattle.promql_c.specs.CallResults.{Shows, ShowsSome};
-ghost use Rattle.promql_c.specs.Calls.{IsEnforceOf, IsExplainOf, IsFormattedOf, IsNothing, IsPrintOf, IsRenameOf, IsSnippetOf, IsTextOf, IsTreePrintOf};
+ghost use Rattle.promql_c.specs.Calls.{IsEnforceOf, IsExplainOf, IsFormattedOf, IsPrintOf, IsRenameOf, IsSnippetOf, IsTextOf, IsTreePrintOf};
 ghost use Rattle.promql_c.specs.CollectedTexts.{IsCollectedText};
 ghost use Rattle.promql_c.specs.Formats.{format_numbered, mode_numbered, named_numbered};
 ghost use Rattle.promql_c.specs.PlacesText.{IsPlacesText};
@@ -88,7 +88,7 @@ pub extern "C" fn call_rename(
     buffer: &mut [u8],
     shown: &mut CallResult,
 )
-    ensures { ShowsSome (IsRenameOf limits.now query.now (named_numbered kind) from.now to.now)
+    ensures { ShowsSome (IsRenameOf limits.now query.now from.now to.now (named_numbered kind))
         shown.new buffer.old buffer.new }
 {
     *shown = calls::rename(alloc, limits, query, kind, from, to, buffer);
@@ -131,7 +131,7 @@ pub extern "C" fn call_check(
     buffer: &mut [u8],
     shown: &mut CallResult,
 )
-    ensures { ShowsSome (IsTextOf IsNothing limits.now query.now) shown.new buffer.old buffer.new }
+    ensures { ShowsSome (IsTextOf (λ t text. text ≡ []) limits.now query.now) shown.new buffer.old buffer.new }
 {
     *shown = calls::check(alloc, limits, query, buffer);
 }
@@ -180,7 +180,7 @@ pub extern "C" fn call_print_tree(
     buffer: &mut [u8],
     shown: &mut CallResult,
 )
-    ensures { ShowsSome (IsTreePrintOf limits.now form.now (format_numbered mode level width) (not (parentheses == 0)))
+    ensures { ShowsSome (IsTreePrintOf limits.now form.now (not (parentheses == 0)) (format_numbered mode level width))
         shown.new buffer.old buffer.new }
 {
     *shown = calls::print_tree(alloc, limits, form, mode, level, width, parentheses, buffer);

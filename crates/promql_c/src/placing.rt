@@ -7,8 +7,8 @@ ghost use Rattle.promql_grammar.specs.Results.{on_result};
 ghost use Rattle.promql_ast.specs.View.{tree_of};
 ghost use Rattle.promql_json.specs.JsonParts.{list};
 ghost use Rattle.promql_syntax.specs.ParseAnswers.{IsAnswerTo};
-ghost use Rattle.promql_lines.specs.QueryErrors.{Gives};
-ghost use Rattle.promql_c.specs.Calls.{IsTextOf, OfTree};
+ghost use Rattle.promql_lines.specs.QueryErrors.{Gives, OfTree};
+ghost use Rattle.promql_c.specs.Calls.{IsTextOf};
 ghost use Rattle.promql_c.specs.PlacesText.{IsPlacesText, span_value};
 
 use crate::collecting::value_text;
@@ -55,7 +55,7 @@ fn text_of_places(alloc: Global, query: &str, expr: &Expr) -> Result<String, All
 
 /// The JSON of the places of a text's query.
 fn place_text(alloc: Global, limits: &Limits, query: &str) -> Result<String, QueryError>
-    ensures { OfTree (λ t. Gives (IsPlacesText query.now t)) limits.now query.now (on_result (λ s. string_bytes s) result) }
+    ensures { OfTree limits.now query.now (λ t. Gives (IsPlacesText query.now t) (λ e. ⊥)) (on_result (λ s. string_bytes s) result) }
 {
     let expr = match query_tree(alloc, limits, query) {
         Ok(expr) => expr,

@@ -1,14 +1,14 @@
 //! What a call makes of a query: its text in a mode, nothing where it is accepted, or its line with a mark.
 
-ghost use Rattle.std.specs.Prelude.{◌≤◌, Ok, string_bytes};
+ghost use Rattle.std.specs.Prelude.{◌≡◌, ◌≤◌, [], Ok, string_bytes};
 ghost use Rattle.promql_grammar.specs.Results.{on_result};
 ghost use Rattle.promql_ast.specs.Height.{height};
 ghost use Rattle.promql_ast.specs.View.{tree_of};
 ghost use Rattle.promql_syntax.specs.ParseAnswers.{IsAnswerTo};
 ghost use Rattle.promql_syntax.specs.declared.parser.TheConstants.{MAX_DEPTH};
 ghost use Rattle.promql_run.specs.Extensions.{HasNoExtension};
-ghost use Rattle.promql_lines.specs.QueryErrors.{Gives, IsPrintOfTree};
-ghost use Rattle.promql_c.specs.Calls.{IsNothing, IsPrintOf, IsSnippetOf, IsTextOf, OfTree, PrintsMode};
+ghost use Rattle.promql_lines.specs.QueryErrors.{Gives, OfTree, Prints};
+ghost use Rattle.promql_c.specs.Calls.{IsPrintOf, IsSnippetOf, IsTextOf};
 
 use promql_ast::{Expr, drop_expr};
 use promql_json::JsonError;
@@ -32,7 +32,7 @@ fn print_tree(
 ) -> Result<String, QueryError>
     requires low { height (tree_of expr.now) ≤ MAX_DEPTH }
     requires plain { HasNoExtension (tree_of expr.now) }
-    ensures { IsPrintOfTree limits.now format (tree_of expr.now) (on_result (λ s. string_bytes s) result) }
+    ensures { Prints limits.now [] (Mode.Plain format) (tree_of expr.now) (on_result (λ s. string_bytes s) result) }
 {
     match shown_text(alloc, format, expr) {
         Ok(Some(text)) => output_within(limits, text),
@@ -52,7 +52,7 @@ fn print_in(
     requires low { height (tree_of expr.now) ≤ MAX_DEPTH }
     requires plain { HasNoExtension (tree_of expr.now) }
     requires answer { IsAnswerTo text.now (Ok (tree_of expr.now)) }
-    ensures { PrintsMode limits.now text.now mode (tree_of expr.now) (on_result (λ s. string_bytes s) result) }
+    ensures { Prints limits.now text.now mode (tree_of expr.now) (on_result (λ s. string_bytes s) result) }
 {
     match mode {
         Mode::Plain(format) => print_tree(alloc, limits, format, expr),
@@ -62,7 +62,7 @@ fn print_in(
 
 /// The text of a query in a mode.
 fn print_text(alloc: Global, limits: &Limits, mode: Mode, text: &str) -> Result<String, QueryError>
-    ensures { OfTree (PrintsMode limits.now text.now mode) limits.now text.now (on_result (λ s. string_bytes s) result) }
+    ensures { OfTree limits.now text.now (Prints limits.now text.now mode) (on_result (λ s. string_bytes s) result) }
 {
     let expr = match query_tree(alloc, limits, text) {
         Ok(expr) => expr,
@@ -93,7 +93,7 @@ pub(crate) fn print_query(
 
 /// Nothing where a query is accepted.
 fn check_text(alloc: Global, limits: &Limits, text: &str) -> Result<String, QueryError>
-    ensures { OfTree (λ t. Gives (IsNothing t)) limits.now text.now (on_result (λ s. string_bytes s) result) }
+    ensures { OfTree limits.now text.now (λ t. Gives (λ text. text ≡ []) (λ e. ⊥)) (on_result (λ s. string_bytes s) result) }
 {
     match query_tree(alloc, limits, text) {
         Ok(_) => Ok(String::new(alloc)),
@@ -107,7 +107,7 @@ pub(crate) fn check_query(
     limits: &Limits,
     query: &[u8],
 ) -> Result<String, QueryError>
-    ensures { IsTextOf IsNothing limits.now query.now (on_result (λ s. string_bytes s) result) }
+    ensures { IsTextOf (λ t text. text ≡ []) limits.now query.now (on_result (λ s. string_bytes s) result) }
 {
     let Ok(text) = str::from_utf8(query) else {
         return Err(QueryError::NotUtf8);

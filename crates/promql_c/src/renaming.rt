@@ -30,7 +30,7 @@ fn rename_text(
     from: &str,
     to: &str,
 ) -> Result<String, QueryError>
-    ensures { IsRenameOf limits.now query.now (Some named) from.now to.now (on_result (λ s. string_bytes s) result) }
+    ensures { IsRenameOf limits.now query.now from.now to.now (Some named) (on_result (λ s. string_bytes s) result) }
 {
     renamed_line(alloc, limits, query, named, from, to)
 }
@@ -44,7 +44,7 @@ pub(crate) fn rename_query(
     from: &[u8],
     to: &[u8],
 ) -> Result<String, QueryError>
-    ensures { IsRenameOf limits.now query.now asked from.now to.now (on_result (λ s. string_bytes s) result) }
+    ensures { IsRenameOf limits.now query.now from.now to.now asked (on_result (λ s. string_bytes s) result) }
 {
     let Some(named) = asked else {
         return Err(QueryError::UnknownMode);

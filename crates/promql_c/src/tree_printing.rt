@@ -2,7 +2,9 @@
 
 ghost use Rattle.std.specs.Prelude.{string_bytes};
 ghost use Rattle.promql_grammar.specs.Results.{on_result};
-ghost use Rattle.promql_c.specs.Calls.{IsTreePrintOf, PrintsForm};
+ghost use Rattle.promql_c.specs.Calls.{IsTreePrintOf};
+ghost use Rattle.promql_lines.specs.QueryErrors.{IsOutput, Then};
+ghost use Rattle.promql_lines.specs.TreeTexts.{PrintsForm};
 
 use promql_lines::output::output_within;
 use promql_lines::query_error::QueryError;
@@ -19,7 +21,7 @@ fn print_text(
     parens: bool,
     form: &str,
 ) -> Result<String, QueryError>
-    ensures { PrintsForm limits.now form.now parens format (on_result (λ s. string_bytes s) result) }
+    ensures { Then (PrintsForm limits.now format parens form.now) (IsOutput limits.now) (on_result (λ s. string_bytes s) result) }
 {
     match tree_text(alloc, limits, format, parens, form) {
         Ok(text) => output_within(limits, text),
@@ -35,7 +37,7 @@ pub(crate) fn print_form(
     parens: bool,
     form: &[u8],
 ) -> Result<String, QueryError>
-    ensures { IsTreePrintOf limits.now form.now asked parens (on_result (λ s. string_bytes s) result) }
+    ensures { IsTreePrintOf limits.now form.now parens asked (on_result (λ s. string_bytes s) result) }
 {
     let Some(format) = asked else {
         return Err(QueryError::UnknownMode);

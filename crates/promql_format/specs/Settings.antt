@@ -1,5 +1,6 @@
 -- The options of the program (docs/reference/programs.md, "One query, formatted").
 use Rattle.std.specs.Prelude.{ℕ, ◌||◌, Bool, true, false, bytes_eq, codes, if◌then◌else◌, List, [], ◌∷◌, Option, Some, None, option_and_then}
+use Rattle.std.specs.Map.{lookup}
 use Rattle.promql_text.specs.Texts.{Text}
 use Rattle.promql_report.specs.LimitOptions.{default_limits, number_in}
 use Rattle.promql_format.specs.declared.settings.Settings.{Settings}
@@ -19,12 +20,10 @@ with_flag s word =
 
 -- options with one
 abbrev pub with_number : Settings → Text → ℕ → Option Settings
-with_number s name n =
-    if bytes_eq name (codes "--width") then Some (record s { options = record s.options { width = n } })
-    else if bytes_eq name (codes "--indent") then Some (record s { options = record s.options { indent_width = n } })
-    else if bytes_eq name (codes "--max-len") then Some (record s { limits = record s.limits { max_len = n } })
-    else if bytes_eq name (codes "--max-patterns") then Some (record s { limits = record s.limits { max_pattern_size = n } })
-    else None
+with_number s name n = lookup (bytes_eq name)
+    ((codes "--width", record s { options = record s.options { width = n } }) ∷ (codes "--indent", record s { options = record s.options { indent_width = n } })
+    ∷ (codes "--max-len", record s { limits = record s.limits { max_len = n } })
+    ∷ (codes "--max-patterns", record s { limits = record s.limits { max_pattern_size = n } }) ∷ [])
 
 -- options, in any order; the last of one name counts
 abbrev pub settings_with : Settings → List Text → Option Settings

@@ -1,9 +1,9 @@
 //! The program as a function of its arguments, its input and its two outputs: docs/reference/programs.md, "One query, formatted".
 
-ghost use Rattle.std.specs.Prelude.{◌≡◌, true, map, string_bytes};
+ghost use Rattle.std.specs.Prelude.{◌≡◌, true, Err, Ok, map, string_bytes};
 ghost use Rattle.promql_run.specs.Programs.{AnswersQuery, Obeys};
 ghost use Rattle.promql_lines.specs.QueryErrors.{query_error_number};
-ghost use Rattle.promql_format.specs.Layouts.{HasNoLayout, IsFormatAnswer, format_command};
+ghost use Rattle.promql_format.specs.Layouts.{IsFormatAnswer, format_command};
 
 use crate::query_layout::query_layout;
 use crate::settings::{Settings, settings_of};
@@ -49,8 +49,8 @@ fn write_layout<R: Read, W: Write, E: Write>(
     writer: &mut Ended<W>,
     errors: &mut Ended<E>,
 ) -> u8
-    ensures answers { AnswersQuery R.remaining W.contents (IsFormatAnswer settings.now) query_error_number
-        (λ e query. HasNoLayout settings.now query e)
+    ensures answers { AnswersQuery R.remaining W.contents (λ query answer. IsFormatAnswer settings.now query (Ok answer)) query_error_number
+        (λ e query. IsFormatAnswer settings.now query (Err e))
         reader.old reader.new writer.old writer.new errors.old errors.new result }
     ensures closed { result ≡ 5 → writer.new.closed ≡ true → errors.new ≡ errors.old }
 {
@@ -82,7 +82,8 @@ pub fn format_program<R: Read, W: Write, E: Write>(
     errors: &mut Ended<E>,
 ) -> u8
     ensures obeys { Obeys W.contents E.contents FORMAT_USAGE.now
-        (λ s. AnswersQuery R.remaining W.contents (IsFormatAnswer s) query_error_number (λ e query. HasNoLayout s query e)
+        (λ s. AnswersQuery R.remaining W.contents (λ query answer. IsFormatAnswer s query (Ok answer)) query_error_number
+        (λ e query. IsFormatAnswer s query (Err e))
         reader.old reader.new writer.old writer.new errors.old errors.new result)
         reader.old reader.new writer.old writer.new errors.old errors.new result
         (format_command (map string_bytes args.now)) }

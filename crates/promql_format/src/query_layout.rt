@@ -1,7 +1,7 @@
 //! What the program writes of a query: docs/reference/programs.md, "One query, formatted".
 
-ghost use Rattle.std.specs.Prelude.{IfErr, IfOk, string_bytes};
-ghost use Rattle.promql_format.specs.Layouts.{HasNoLayout, IsFormatAnswer};
+ghost use Rattle.std.specs.Prelude.{Err, IfErr, IfOk, Ok, string_bytes};
+ghost use Rattle.promql_format.specs.Layouts.{IsFormatAnswer};
 
 use crate::settings::Settings;
 use promql_lines::formatted_query::formatted_query;
@@ -10,8 +10,8 @@ use std::alloc::Global;
 
 /// What is written of a query: its layout and a line feed, or nothing where it is only compared.
 pub fn query_layout(alloc: Global, settings: &Settings, query: &str) -> Result<String, QueryError>
-    ensures ok { IfOk result (λ s. IsFormatAnswer settings.now query.now (string_bytes s)) }
-    ensures err { IfErr result (HasNoLayout settings.now query.now) }
+    ensures ok { IfOk result (λ s. IsFormatAnswer settings.now query.now (Ok (string_bytes s))) }
+    ensures err { IfErr result (λ e. IsFormatAnswer settings.now query.now (Err e)) }
 {
     let mut layout = formatted_query(alloc, &settings.limits, &settings.options, query)?;
     let is_bare = query == layout.as_str();

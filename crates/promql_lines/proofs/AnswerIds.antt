@@ -7,7 +7,8 @@ use Rattle.serde_json.specs.Find.{get}
 use Rattle.serde_json.specs.Read.{read}
 use Rattle.serde_json.specs.Written.{compact_text}
 use Rattle.promql_text.specs.Texts.{Text}
-use Rattle.promql_lines.specs.Batch.{FailsWith, HasId, IsIdOf, IsLineAnswer, IsPlainAnswer, error_value, value_text}
+use Rattle.promql_lines.specs.Batch.{HasId, IsIdOf, IsLineAnswer, IsPlainAnswer, error_value, value_text}
+use Rattle.promql_lines.specs.BatchSteps.{FailsWith}
 use Rattle.promql_lines.specs.QueryErrors.{query_error_number, rejected_in}
 use Rattle.promql_lines.specs.Requests.{id_in, matcher_in, mode_in, query_in, unknown_in}
 use Rattle.promql_lines.specs.declared.query_error.QueryError.TheVariants.{NotARequest}
@@ -23,7 +24,7 @@ error_value_text code message None = (_, refl)
 error_value_text code message (Some r) = (_, refl)
 
 plain_object : (settings : Settings) (line printed : Text) (is_ok : Bool) → IsPlainAnswer settings line printed is_ok → IsObject printed
-plain_object settings line printed true (query, matcher, m, utf8, asks, (output, has, is)) = (codes "\"ok\":" ++ (value_text m output ++ codes "}"), is)
+plain_object settings line printed true (asked, asks, (output, has, is)) = (codes "\"ok\":" ++ (value_text asked.2 output ++ codes "}"), is)
 plain_object settings line printed false (e, fails, (message, is)) =
     let made = error_value_text (query_error_number e) message (rejected_in e) in (made.0, is ∙ made.1)
 

@@ -7,7 +7,7 @@ use Rattle.std.proofs.lemmas.List.Elements.{All-head, All-tail}
 use Rattle.promql_text.specs.Texts.{Text}
 use Rattle.promql_io.proofs.KnownBytes.{appends_keeps, appends_more, appends_none, consumes_more, consumes_none, whole_begun}
 use Rattle.promql_lines.specs.declared.settings.Settings.{Settings}
-use Rattle.promql_lines.specs.Batch.{Answer, AnswersBefore, AnswersLines, AreLines, AreWritten, BeginsToAnswer, IsLineAnswer, IsOpen, ended_lines}
+use Rattle.promql_lines.specs.Batch.{Answer, AnswersBefore, AnswersLines, AreAnswered, AreLines, IsCutShort, IsLineAnswer, IsOpen, ended_lines}
 use Rattle.promql_lines.specs.BatchSteps.{HasNoFeed, HaveNoFeed, IsAll, IsAnswered, IsLineRead, IsPartRead, IsPartlyAnswered}
 use Rattle.promql_lines.specs.declared.batch.LineEnd.{LineEnd}
 use Rattle.promql_lines.specs.declared.batch.LineEnd.TheVariants.{Feed, Input}
@@ -48,56 +48,53 @@ lines_of = map (λ a. a.line)
 
 -- ---- the answers that were written
 
-written_none : (settings : Settings) (held : Option (List ℕ)) → AreWritten settings held held []
-written_none settings held = record { each = tt; written = appends_none held }
+abbrev texts_of : List Answer → List Text
+texts_of = map (λ a. a.text)
 
-written_more : (settings : Settings) (answers : List Answer) (answer : Answer) (held held_now held_after : Option (List ℕ)) → AreWritten settings held held_now answers → IsLineAnswer settings answer.line answer.text answer.is_ok → Appends held_now held_after (answer.text ++ 10 ∷ []) → AreWritten settings held held_after (answers ++ answer ∷ [])
-written_more settings answers answer held held_now held_after so_far is written =
-    let texts = map (λ a. a.text) answers in
-    let all : ended_lines texts ++ (answer.text ++ 10 ∷ []) ≡ ended_lines (map (λ a. a.text) (answers ++ answer ∷ [])) =
+-- one more answer was written
+written_more : (answers : List Answer) (answer : Answer) (held held_now held_after : Option (List ℕ)) → Appends held held_now (ended_lines (texts_of answers)) → Appends held_now held_after (answer.text ++ 10 ∷ []) → Appends held held_after (ended_lines (texts_of (answers ++ answer ∷ [])))
+written_more answers answer held held_now held_after so_far written =
+    let texts = texts_of answers in
+    let all : ended_lines texts ++ (answer.text ++ 10 ∷ []) ≡ ended_lines (texts_of (answers ++ answer ∷ [])) =
     sym (ended_more texts answer.text) ∙ ap ended_lines (parts_more (λ a. a.text) answers answer) in
-    record {
-      each = each_more settings answers answer so_far.each is;
-      written = subst (Appends held held_after) all (appends_more held held_now held_after (ended_lines texts) (answer.text ++ 10 ∷ []) so_far.written written);
-    }
-
-written_kept : (settings : Settings) (answers : List Answer) (held held_now held_after : Option (List ℕ)) → AreWritten settings held held_now answers → Keeps held_now held_after → AreWritten settings held held_after answers
-written_kept settings answers held held_now held_after so_far same = record {
-  each = so_far.each;
-  written = appends_keeps held held_now held_after (ended_lines (map (λ a. a.text) answers)) so_far.written same;
-}
+    subst (Appends held held_after) all (appends_more held held_now held_after (ended_lines texts) (answer.text ++ 10 ∷ []) so_far written)
 
 -- ---- a batch so far
 
 -- these lines were read and answered, and nothing else
 pub record Progress (settings : Settings) (left left_now held held_now : Option (List ℕ)) (all_ok : Bool) : Type 0 where
   pub answers : List Answer
-  pub single : HaveNoFeed (lines_of answers)
-  pub read : Consumes left left_now (ended_lines (lines_of answers))
-  pub written : AreWritten settings held held_now answers
+  pub answered : AreAnswered settings left left_now held held_now (ended_lines (lines_of answers)) answers
   pub ok : all_ok ≡ list_all (λ a. a.is_ok) answers
 
 pub nothing_yet : (settings : Settings) (left held : Option (List ℕ)) → Progress settings left left held held true
-nothing_yet settings left held = record { answers = []; single = tt; read = consumes_none left; written = written_none settings held; ok = refl }
+nothing_yet settings left held = record {
+  answers = [];
+  answered = record { each = tt; lines = record { single = tt; whole = inl refl }; read = consumes_none left; written = appends_none held };
+  ok = refl;
+}
 
 -- one more line with its answer
 abbrev answer_to : Text → Text → Bool → Answer
 answer_to line text is_ok = record { line = line; text = text; is_ok = is_ok }
 
-ok_with : (answers : List Answer) (answer : Answer) (all_ok : Bool) → all_ok ≡ list_all (λ a. a.is_ok) answers → (all_ok && answer.is_ok) ≡ list_all (λ a. a.is_ok) (answers ++ answer ∷ [])
-ok_with answers answer all_ok so_far = ap (λ b. b && answer.is_ok) so_far ∙ sym (ok_more answers answer)
+ok_with : (answers : List Answer) (answer : Answer) (all_ok both : Bool) → all_ok ≡ list_all (λ a. a.is_ok) answers → both ≡ (all_ok && answer.is_ok) → both ≡ list_all (λ a. a.is_ok) (answers ++ answer ∷ [])
+ok_with answers answer all_ok both so_far is = is ∙ ap (λ b. b && answer.is_ok) so_far ∙ sym (ok_more answers answer)
 
-pub line_more : (settings : Settings) (left left_now left_after held held_now held_after : Option (List ℕ)) (line : Text) (all_ok is_ok : Bool) → Progress settings left left_now held held_now all_ok → IsLineRead left_now left_after line (Some Feed) → IsAnswered settings line held_now held_after is_ok → Progress settings left left_after held held_after (all_ok && is_ok)
-line_more settings left left_now left_after held held_now held_after line all_ok is_ok so_far read answered =
+pub line_more : (settings : Settings) (left left_now left_after held held_now held_after : Option (List ℕ)) (line : Text) (all_ok is_ok both : Bool) → both ≡ (all_ok && is_ok) → Progress settings left left_now held held_now all_ok → IsLineRead left_now left_after line (Some Feed) → IsAnswered settings line held_now held_after is_ok → Progress settings left left_after held held_after both
+line_more settings left left_now left_after held held_now held_after line all_ok is_ok both is so_far read answered =
     let answer = answer_to line answered.0 is_ok in
     let lines = lines_of so_far.answers in
     let more = parts_more (λ a. a.line) so_far.answers answer in
     record {
       answers = so_far.answers ++ answer ∷ [];
-      single = subst HaveNoFeed more (none_more lines line so_far.single read.1);
-      read = subst (Consumes left left_after) (sym (ended_more lines line) ∙ ap ended_lines more) (consumes_more left left_now left_after (ended_lines lines) (line ++ 10 ∷ []) so_far.read read.0);
-      written = written_more settings so_far.answers answer held held_now held_after so_far.written answered.1 answered.2;
-      ok = ok_with so_far.answers answer all_ok so_far.ok;
+      answered = record {
+        each = each_more settings so_far.answers answer so_far.answered.each answered.1;
+        lines = record { single = subst HaveNoFeed more (none_more lines line so_far.answered.lines.single read.1); whole = inl refl };
+        read = subst (Consumes left left_after) (sym (ended_more lines line) ∙ ap ended_lines more) (consumes_more left left_now left_after (ended_lines lines) (line ++ 10 ∷ []) so_far.answered.read read.0);
+        written = written_more so_far.answers answer held held_now held_after so_far.answered.written answered.2;
+      };
+      ok = ok_with so_far.answers answer all_ok both so_far.ok is;
     }
 
 -- what was written stays where it is flushed
@@ -119,16 +116,18 @@ all_read (Some xs) (Some ys) front back first all = first ∙ ap (λ rest. front
 
 pub input_ends : (settings : Settings) (left left_now left_after held held_now held_after : Option (List ℕ)) (line : Text) (all_ok : Bool) → Progress settings left left_now held held_now all_ok → IsLineRead left_now left_after line None → Keeps held_now held_after → AnswersLines settings left left_after held held_after all_ok
 input_ends settings left left_now left_after held held_now held_after line all_ok so_far read same =
-    let whole = ended_lines (lines_of so_far.answers) in
-    record {
-      input = whole;
-      all = subst (IsAll left) (append-nil whole) (all_read left left_now whole [] so_far.read read.1);
-      read = subst (Consumes left left_after) (append-nil whole) (consumes_more left left_now left_after whole [] so_far.read read.0);
-      answers = so_far.answers;
-      are = record { single = so_far.single; whole = inl refl };
-      written = written_kept settings so_far.answers held held_now held_after so_far.written same;
-      ok = so_far.ok;
-    }
+    let whole = ended_lines (lines_of so_far.answers) in (
+      whole,
+      so_far.answers,
+      record {
+        each = so_far.answered.each;
+        lines = so_far.answered.lines;
+        read = subst (Consumes left left_after) (append-nil whole) (consumes_more left left_now left_after whole [] so_far.answered.read read.0);
+        written = appends_keeps held held_now held_after (ended_lines (texts_of so_far.answers)) so_far.answered.written same;
+      },
+      subst (IsAll left) (append-nil whole) (all_read left left_now whole [] so_far.answered.read read.1),
+      so_far.ok,
+    )
 
 -- the last byte of a line is none but a line feed
 open_line : (front line : Text) → HasNoFeed line → line ≢ [] → IsOpen (front ++ line)
@@ -144,53 +143,33 @@ last_lines lines line single none some = record {
   whole = inr (open_line (ended_lines lines) line none some, ended_more lines line ∙ sym (append_assoc (ended_lines lines) line (10 ∷ [])));
 }
 
-pub last_line_ends : (settings : Settings) (left left_now left_after held held_now held_mid held_after : Option (List ℕ)) (line : Text) (all_ok is_ok : Bool) → Progress settings left left_now held held_now all_ok → IsLineRead left_now left_after line (Some Input) → IsAnswered settings line held_now held_mid is_ok → Keeps held_mid held_after → AnswersLines settings left left_after held held_after (all_ok && is_ok)
-last_line_ends settings left left_now left_after held held_now held_mid held_after line all_ok is_ok so_far read answered same =
+pub last_line_ends : (settings : Settings) (left left_now left_after held held_now held_mid held_after : Option (List ℕ)) (line : Text) (all_ok is_ok both : Bool) → both ≡ (all_ok && is_ok) → Progress settings left left_now held held_now all_ok → IsLineRead left_now left_after line (Some Input) → IsAnswered settings line held_now held_mid is_ok → Keeps held_mid held_after → AnswersLines settings left left_after held held_after both
+last_line_ends settings left left_now left_after held held_now held_mid held_after line all_ok is_ok both is so_far read answered same =
     let answer = answer_to line answered.0 is_ok in
     let lines = lines_of so_far.answers in
-    record {
-      input = ended_lines lines ++ line;
-      all = all_read left left_now (ended_lines lines) line so_far.read read.2;
-      read = consumes_more left left_now left_after (ended_lines lines) line so_far.read read.0;
-      answers = so_far.answers ++ answer ∷ [];
-      are = subst (AreLines (ended_lines lines ++ line)) (parts_more (λ a. a.line) so_far.answers answer) (last_lines lines line so_far.single read.1 read.3);
-      written = written_kept settings (so_far.answers ++ answer ∷ []) held held_mid held_after
-          (written_more settings so_far.answers answer held held_now held_mid so_far.written answered.1 answered.2) same;
-      ok = ok_with so_far.answers answer all_ok so_far.ok;
-    }
+    let answers = so_far.answers ++ answer ∷ [] in (
+      ended_lines lines ++ line,
+      answers,
+      record {
+        each = each_more settings so_far.answers answer so_far.answered.each answered.1;
+        lines = subst (AreLines (ended_lines lines ++ line)) (parts_more (λ a. a.line) so_far.answers answer) (last_lines lines line so_far.answered.lines.single read.1 read.3);
+        read = consumes_more left left_now left_after (ended_lines lines) line so_far.answered.read read.0;
+        written = appends_keeps held held_mid held_after (ended_lines (texts_of answers)) (written_more so_far.answers answer held held_now held_mid so_far.answered.written answered.2) same;
+      },
+      all_read left left_now (ended_lines lines) line so_far.answered.read read.2,
+      ok_with so_far.answers answer all_ok both so_far.ok is,
+    )
 
 pub reading_fails : (settings : Settings) (left left_now left_after held held_now : Option (List ℕ)) (all_ok : Bool) → Progress settings left left_now held held_now all_ok → IsPartRead left_now left_after → AnswersBefore settings left left_after held held_now
-reading_fails settings left left_now left_after held held_now all_ok so_far part = record {
-  answers = so_far.answers;
-  part = part.0;
-  read = consumes_more left left_now left_after (ended_lines (lines_of so_far.answers)) part.0 so_far.read part.1;
-  single = so_far.single;
-  within = part.2;
-  written = so_far.written;
-}
+reading_fails settings left left_now left_after held held_now all_ok so_far part = (left_now, (so_far.answers, so_far.answered), part)
 
--- a beginning of the answer to a line that ends the input so was written
-begins : (settings : Settings) (left left_now left_after held held_now held_after : Option (List ℕ)) (line input : Text) (all_ok : Bool) (so_far : Progress settings left left_now held held_now all_ok) → Consumes left left_after input → AreLines input (lines_of so_far.answers ++ line ∷ []) → IsPartlyAnswered settings line held_now held_after → BeginsToAnswer settings left left_after held held_after
-begins settings left left_now left_after held held_now held_after line input all_ok so_far read are part = record {
-  answers = so_far.answers;
-  last = answer_to line part.0 part.1;
-  input = input;
-  read = read;
-  are = are;
-  held_before = held_now;
-  written = so_far.written;
-  is = part.2;
-  begun = part.3;
-}
+-- a beginning of the answer to the line that was read last was written
+begins : (settings : Settings) (left left_now left_after held held_now held_after : Option (List ℕ)) (line input : Text) (all_ok : Bool) → Progress settings left left_now held held_now all_ok → AreLines input (line ∷ []) → Consumes left_now left_after input → IsPartlyAnswered settings line held_now held_after → IsCutShort settings left left_after held held_after
+begins settings left left_now left_after held held_now held_after line input all_ok so_far are read part =
+    inl (left_now, held_now, (so_far.answers, so_far.answered), (answer_to line part.0 part.1, part.2, (input, are, read, part.3)))
 
-pub writing_fails : (settings : Settings) (left left_now left_after held held_now held_after : Option (List ℕ)) (line : Text) (end : LineEnd) (all_ok : Bool) → Progress settings left left_now held held_now all_ok → IsLineRead left_now left_after line (Some end) → IsPartlyAnswered settings line held_now held_after → BeginsToAnswer settings left left_after held held_after
+pub writing_fails : (settings : Settings) (left left_now left_after held held_now held_after : Option (List ℕ)) (line : Text) (end : LineEnd) (all_ok : Bool) → Progress settings left left_now held held_now all_ok → IsLineRead left_now left_after line (Some end) → IsPartlyAnswered settings line held_now held_after → IsCutShort settings left left_after held held_after
 writing_fails settings left left_now left_after held held_now held_after line Feed all_ok so_far read part =
-    let lines = lines_of so_far.answers in
-    begins settings left left_now left_after held held_now held_after line (ended_lines lines ++ (line ++ 10 ∷ [])) all_ok so_far
-    (consumes_more left left_now left_after (ended_lines lines) (line ++ 10 ∷ []) so_far.read read.0)
-    (record { single = none_more lines line so_far.single read.1; whole = inl (ended_more lines line) }) part
+    begins settings left left_now left_after held held_now held_after line (line ++ 10 ∷ []) all_ok so_far (record { single = (read.1, tt); whole = inl refl }) read.0 part
 writing_fails settings left left_now left_after held held_now held_after line Input all_ok so_far read part =
-    let lines = lines_of so_far.answers in
-    begins settings left left_now left_after held held_now held_after line (ended_lines lines ++ line) all_ok so_far
-    (consumes_more left left_now left_after (ended_lines lines) line so_far.read read.0)
-    (last_lines lines line so_far.single read.1 read.3) part
+    begins settings left left_now left_after held held_now held_after line line all_ok so_far (last_lines [] line tt read.1 read.3) read.0 part

@@ -10,7 +10,7 @@ use Rattle.promql_rewrite.proofs.enforcement.EnforcedTypes.{height_enforced}
 use Rattle.promql_syntax.specs.declared.parser.TheConstants.{MAX_DEPTH}
 use Rattle.promql_span.specs.declared.limits.Limits.{Limits}
 use Rattle.promql_run.specs.Extensions.{HasNoExtension, NoneInEach, NoneInParam}
-use Rattle.promql_lines.specs.Batch.{IsAsked}
+use Rattle.promql_lines.specs.BatchSteps.{IsAsked}
 
 module _ (c : PlainMatcher) where
   mutual

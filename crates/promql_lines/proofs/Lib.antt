@@ -10,4 +10,5 @@ mod Renamings
 pub mod QueryStatuses
 pub mod RequestIds
 pub mod RequestMembers
+pub mod Steps
 pub mod TreeMeans

@@ -1,5 +1,5 @@
 -- The answer to a line.
-use Rattle.std.proofs.Common.{◌≡◌, ◌⊎◌, ⊎_elim, ◌∙◌, ℕ, List, [], ◌∷◌, map, String, ap, inl, inr, refl, string_bytes, sym}
+use Rattle.std.proofs.Common.{◌≡◌, ◌⊎◌, ⊎_elim, ◌∙◌, ℕ, List, [], ◌∷◌, map, String, ap, inl, inr, refl, string_bytes, subst, sym}
 use Rattle.std.proofs.lemmas.Bool.{or_from}
 use Rattle.std.proofs.lemmas.Result.{IfOk-weaker}
 use Rattle.std.specs.Prelude.{false, IfErr, IfOk, Option, Some, None, option_and_then, option_map, Result, Ok, Err}
@@ -14,9 +14,9 @@ use Rattle.promql_ast.specs.Tree.{Tree}
 use Rattle.promql_report.specs.Rejecting.{IsRead}
 use Rattle.promql_span.specs.declared.limits.Limits.{Limits}
 use Rattle.promql_lines.specs.declared.settings.Settings.{Settings}
-use Rattle.promql_lines.specs.Batch.{FailsOnQuery, FailsWith, IsAsked, IsAskedPrint, IsModePrint, IsQueryAnswer, error_value, rejection_object, with_expectation}
-use Rattle.promql_lines.specs.BatchSteps.{IsAskedAnswer, IsModeAnswer, IsOkLine, IsTreeAnswer}
-use Rattle.promql_lines.specs.QueryErrors.{IsOutput, IsPrintOfTree, query_error_number, rejected_in}
+use Rattle.promql_lines.specs.Batch.{PrintsAsked, PrintsQuery, error_value, with_expectation}
+use Rattle.promql_lines.specs.BatchSteps.{FailsWith, IsAsked, IsAskedAnswer, IsAskedPrint, IsModeAnswer, IsOkLine, IsQueryAnswer, IsTreeAnswer, PrintsFormat}
+use Rattle.promql_lines.specs.QueryErrors.{IsOutput, query_error_number, rejected_in}
 use Rattle.promql_lines.specs.declared.query_error.QueryError.TheVariants as error
 use Rattle.promql_run.specs.Running.{format_text}
 use Rattle.promql_lines.specs.Requests.{format_with, matcher_in, mode_in, mode_with, query_in, requested}
@@ -55,7 +55,7 @@ asks_by_value asked line query matcher m value is query_is matcher_is mode_is =
 -- the answer to the query that a line asks for is that to the line
 pub answered_line : {E : Type 0} (r : Result (String Global) E) (settings : Settings) (line query : Text) (matcher : Option Text) (m : Mode) → IsUtf8 line → requested settings.format line ≡ Some (query, matcher, m)
     → IfOk r (λ s. IsQueryAnswer settings.limits (string_bytes s) query matcher m) → IfOk r (λ s. IsOkLine settings line (string_bytes s))
-answered_line r settings line query matcher m utf8 asks = IfOk-weaker r _ _ (λ s has. (query, matcher, m, utf8, asks, has))
+answered_line r settings line query matcher m utf8 asks = IfOk-weaker r _ _ (λ s has. ((query, matcher, m), (utf8, asks), has))
 
 texts_are_finite : (ts : List Text) → items_have_float (items_of (map string ts)) ≡ false
 texts_are_finite [] = refl
@@ -69,7 +69,7 @@ value_is_finite : (code : ℕ) (message : Text) (o : Option RejectedQuery) → h
 value_is_finite code message None = refl
 value_is_finite code message (Some r) = expectation_is_finite r.expectation _ refl
 
-pub rejection_is_finite : (built : Data) (r : RejectedQuery) (code : ℕ) (message : Text) → built ≡ rejection_object code message r → has_float built ≡ false
+pub rejection_is_finite : (built : Data) (r : RejectedQuery) (code : ℕ) (message : Text) → built ≡ error_value code message (Some r) → has_float built ≡ false
 rejection_is_finite built r code message is = ap has_float is ∙ value_is_finite code message (Some r)
 
 pub error_is_finite : (built : Data) (e : QueryError) (message : Text) → built ≡ error_value (query_error_number e) message (rejected_in e) → has_float built ≡ false
@@ -78,12 +78,33 @@ error_is_finite built e message is = ap has_float is ∙ value_is_finite (query_
 -- what is made of the tree with the matcher is made of the tree
 pub asked_answers : (r : Result (String Global) QueryError) (limits : Limits) (matcher : Option Text) (format : Format) (t u : Tree) → IsAsked limits matcher t (Ok u)
     → IfOk r (λ s. IsTreeAnswer limits format u (string_bytes s)) → IfOk r (λ s. IsAskedAnswer limits matcher format t (string_bytes s))
-asked_answers r limits matcher format t u asked = IfOk-weaker r _ _ (λ s has. (has.0, inr (u, asked, has.1), has.2))
+asked_answers r limits matcher format t u asked = IfOk-weaker r _ _ (λ s has. (has.0, (u, asked, has.1), has.2))
 
 pub asked_fails : {T : Type 0} (r : Result T QueryError) (limits : Limits) (matcher : Option Text) (format : Format) (t u : Tree) → IsAsked limits matcher t (Ok u)
-    → IfErr r (λ e. IsPrintOfTree limits format u (Err e)) → IfErr r (λ e. IsAskedPrint limits matcher format t (Err e))
+    → IfErr r (λ e. PrintsFormat limits format u (Err e)) → IfErr r (λ e. IsAskedPrint limits matcher format t (Err e))
 asked_fails (Ok value) limits matcher format t u asked fails = tt
 asked_fails (Err e) limits matcher format t u asked fails = inr (u, asked, fails)
+
+-- what is printed of that is printed in the mode of the format
+asked_prints : (limits : Limits) (query : Text) (matcher : Option Text) (format : Format) (t : Tree) (made : Result Text QueryError) → IsAskedPrint limits matcher format t made
+    → PrintsAsked limits query (modes.Plain format) matcher t made
+asked_prints limits query (Some matcher) format t (Ok text) prints = prints
+asked_prints limits query (Some matcher) format t (Err e) prints = prints
+asked_prints limits query None format t (Ok text) (u, same, prints) = let is : u ≡ t = cc in subst (λ v. PrintsFormat limits format v (Ok text)) is prints
+asked_prints limits query None format t (Err e) (inl none) = absurd cc
+asked_prints limits query None format t (Err e) (inr (u, same, prints)) = let is : u ≡ t = cc in subst (λ v. PrintsFormat limits format v (Err e)) is prints
+
+pub mode_answers : (r : Result (String Global) QueryError) (limits : Limits) (query : Text) (matcher : Option Text) (format : Format) (m : Mode) (t : Tree) → modes.Plain format ≡ m
+    → IfOk r (λ s. IsAskedAnswer limits matcher format t (string_bytes s)) → IfOk r (λ s. IsModeAnswer limits query matcher m t (string_bytes s))
+mode_answers r limits query matcher format m t is has =
+    subst (λ m. IfOk r (λ s. IsModeAnswer limits query matcher m t (string_bytes s))) is
+    (IfOk-weaker r _ _ (λ s has. (has.0, asked_prints limits query matcher format t (Ok has.0) has.1, has.2)) has)
+
+pub mode_fails : {T : Type 0} (r : Result T QueryError) (limits : Limits) (query : Text) (matcher : Option Text) (format : Format) (m : Mode) (t : Tree) → modes.Plain format ≡ m
+    → IfErr r (λ e. IsAskedPrint limits matcher format t (Err e)) → IfErr r (λ e. PrintsAsked limits query m matcher t (Err e))
+mode_fails (Ok value) limits query matcher format m t is fails = tt
+mode_fails (Err e) limits query matcher format m t is fails =
+    subst (λ m. PrintsAsked limits query m matcher t (Err e)) is (asked_prints limits query matcher format t (Err e) fails)
 
 -- what is printed of a tree is printed of the query
 pub query_answers : (r : Result (String Global) QueryError) (limits : Limits) (query : Text) (matcher : Option Text) (m : Mode) (t : Tree) → IsRead limits query t
@@ -91,18 +112,18 @@ pub query_answers : (r : Result (String Global) QueryError) (limits : Limits) (q
 query_answers r limits query matcher m t read = IfOk-weaker r _ _ (λ s has. (has.0, (t, read, has.1), has.2))
 
 pub query_fails : {T : Type 0} (r : Result T QueryError) (limits : Limits) (query : Text) (matcher : Option Text) (m : Mode) (t : Tree) → IsRead limits query t
-    → IfErr r (λ e. IsModePrint limits query matcher m t (Err e)) → IfErr r (λ e. FailsOnQuery limits e query matcher m)
+    → IfErr r (λ e. PrintsAsked limits query m matcher t (Err e)) → IfErr r (λ e. PrintsQuery limits (query, matcher, m) (Err e))
 query_fails (Ok value) limits query matcher m t read fails = tt
 query_fails (Err e) limits query matcher m t read fails = inr (t, read, fails)
 
 -- an output of a tree that is too long, or for which an allocation failed
 pub no_answer : {T : Type 0} (r : Result T QueryError) (limits : Limits) (format : Format) (t : Tree) (text : Text) → format_text format t ≡ Ok text
-    → IfErr r (λ e. IsOutput limits text (Err e) ⊎ (e ≡ error.Memory)) → IfErr r (λ e. IsPrintOfTree limits format t (Err e))
+    → IfErr r (λ e. IsOutput limits text (Err e) ⊎ (e ≡ error.Memory)) → IfErr r (λ e. PrintsFormat limits format t (Err e))
 no_answer (Ok value) limits format t text gives fails = tt
-no_answer (Err e) limits format t text gives fails = ⊎_elim (λ out. inl (text, gives, out)) (λ is. inr (e, inl is, refl)) fails
+no_answer (Err e) limits format t text gives fails = ⊎_elim (λ out. inr (text, gives, out)) (λ is. inl (inr is)) fails
 
 -- an error of the query is one of the line that asks for it
 pub failing_in_vain : {T : Type 0} (r : Result T QueryError) (settings : Settings) (line query : Text) (matcher : Option Text) (m : Mode) → IsUtf8 line → requested settings.format line ≡ Some (query, matcher, m)
-    → IfErr r (λ e. FailsOnQuery settings.limits e query matcher m) → IfErr r (FailsWith settings line)
+    → IfErr r (λ e. PrintsQuery settings.limits (query, matcher, m) (Err e)) → IfErr r (FailsWith settings line)
 failing_in_vain (Ok value) settings line query matcher m utf8 asks fails = tt
-failing_in_vain (Err e) settings line query matcher m utf8 asks fails = inr (query, matcher, m, utf8, asks, fails)
+failing_in_vain (Err e) settings line query matcher m utf8 asks fails = inr ((query, matcher, m), (utf8, asks), fails)

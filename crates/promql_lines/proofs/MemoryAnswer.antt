@@ -1,16 +1,16 @@
 -- The answer to a line for which an allocation failed.
-use Rattle.std.proofs.Common.{◌≡◌, codes, false, inr, refl}
+use Rattle.std.proofs.Common.{◌≡◌, None, codes, false, inr, refl}
 use Rattle.std.specs.Fmt.{digits}
 use Rattle.serde_json.proofs.OnLiterals.{serde_json_on_literals}
 use Rattle.serde_json.specs.Written.{compact_text}
 use Rattle.promql_text.specs.Texts.{Text}
 use Rattle.promql_lines.specs.declared.settings.Settings.{Settings}
-use Rattle.promql_lines.specs.Batch.{IsLineAnswer, error_object}
+use Rattle.promql_lines.specs.Batch.{IsLineAnswer, error_value}
 
 abbrev pub memory_answer : Text
 memory_answer = codes "{\"code\":1,\"error\":\"out of memory\"}"
 
-memory_text : memory_answer ≡ compact_text (error_object 1 (codes "out of memory"))
+memory_text : memory_answer ≡ compact_text (error_value 1 (codes "out of memory") None)
 unfolding digits serde_json_on_literals
 memory_text = refl
 

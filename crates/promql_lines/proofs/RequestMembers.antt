@@ -5,24 +5,25 @@ use Rattle.std.specs.BTreeMap.{BTreeMap}
 use Rattle.serde_json.specs.View.{members_view, view}
 use Rattle.serde_json.specs.declared.value.Value.{Value, Object, the_lemmas}
 use Rattle.promql_text.specs.Texts.{Text}
-use Rattle.promql_lines.specs.Requests.{is_member_name, member_names, unknown_in, unknown_name}
+use Rattle.promql_lines.specs.BatchSteps.{first_unknown}
+use Rattle.promql_lines.specs.Requests.{is_member_name, unknown_in, unknown_name}
 
 abbrev names : List (String Global) → List Text
 names = map string_bytes
 
-pub known_first : (left rest : List (String Global)) (key : String Global) → left ≡ key ∷ rest → is_member_name (string_bytes key) ≡ true → unknown_name (names rest) ≡ unknown_name (names left)
+pub known_first : (left rest : List (String Global)) (key : String Global) → left ≡ key ∷ rest → is_member_name (string_bytes key) ≡ true → first_unknown (names rest) ≡ first_unknown (names left)
 known_first left rest key is known =
-    sym (ap (λ keys. unknown_name (names keys)) is ∙ ap (λ b. cond b (unknown_name (names rest)) (Some (string_bytes key))) known)
+    sym (ap (λ keys. first_unknown (names keys)) is ∙ ap (λ b. cond b (first_unknown (names rest)) (Some (string_bytes key))) known)
 
-pub unknown_first : (left rest : List (String Global)) (key : String Global) → left ≡ key ∷ rest → is_member_name (string_bytes key) ≡ false → Some (string_bytes key) ≡ unknown_name (names left)
+pub unknown_first : (left rest : List (String Global)) (key : String Global) → left ≡ key ∷ rest → is_member_name (string_bytes key) ≡ false → Some (string_bytes key) ≡ first_unknown (names left)
 unknown_first left rest key is unknown =
-    sym (ap (λ keys. unknown_name (names keys)) is ∙ ap (λ b. cond b (unknown_name (names rest)) (Some (string_bytes key))) unknown)
+    sym (ap (λ keys. first_unknown (names keys)) is ∙ ap (λ b. cond b (first_unknown (names rest)) (Some (string_bytes key))) unknown)
 
-pub names_of : (ms : List (String Global × Value)) → names (map (λ m. m.0) ms) ≡ member_names (members_view ms)
+pub names_of : (ms : List (String Global × Value)) → first_unknown (names (map (λ m. m.0) ms)) ≡ unknown_name (members_view ms)
 names_of [] = refl
-names_of (m ∷ ms) = ap (λ keys. string_bytes m.0 ∷ keys) (names_of ms)
+names_of (m ∷ ms) = ap (λ o. cond (is_member_name (string_bytes m.0)) o (Some (string_bytes m.0))) (names_of ms)
 
-pub object_has : (v : Value) (members : BTreeMap (String Global) Value) → v ≡ Object members → unknown_in (view v) ≡ unknown_name (member_names (members_view members.entries))
+pub object_has : (v : Value) (members : BTreeMap (String Global) Value) → v ≡ Object members → unknown_in (view v) ≡ unknown_name (members_view members.entries)
 object_has v members is = search (rules, the_lemmas)
 
 pub some_of_map : {A B : Type 0} (f : A → B) (o : Option A) → is_some o ≡ is_some (option_map f o)

@@ -1,5 +1,5 @@
 -- What a batch answers to its lines (docs/reference/programs.md).
-use Rattle.std.specs.Prelude.{◌≡◌, ◌≢◌, ◌⊎◌, ℕ, ◌++◌, List, [], ◌∷◌, All, Bool, true, false, IfSome, Option, Some, None, Result, Ok, Err, MatchResult, codes, map, string_bytes}
+use Rattle.std.specs.Prelude.{◌≡◌, ◌≢◌, ◌⊎◌, ℕ, ◌++◌, List, [], ◌∷◌, All, Bool, true, false, IfSome, Option, Some, None, Result, Ok, Err, codes, map, string_bytes}
 use Rattle.std.specs.List.{AllByRecursion, list_all}
 use Rattle.std.specs.Str.{IsUtf8}
 use Rattle.std.specs.Io.{StopsAt}
@@ -13,10 +13,9 @@ use Rattle.promql_text.specs.Texts.{Text}
 use Rattle.promql_ast.specs.Tree.{Tree}
 use Rattle.promql_io.specs.Ended.{AppendsBeginning}
 use Rattle.promql_json.specs.JsonParts.{list}
-use Rattle.promql_report.specs.Rejecting.{IsRead, IsRejection}
 use Rattle.promql_span.specs.declared.limits.Limits.{Limits}
-use Rattle.promql_lines.specs.EnforcedLines.{IsEnforcedWithin, IsUnenforced}
-use Rattle.promql_lines.specs.QueryErrors.{IsPlacedPrint, IsPrintOfTree, query_error_number, rejected_in}
+use Rattle.promql_lines.specs.EnforcedLines.{Enforces}
+use Rattle.promql_lines.specs.QueryErrors.{Prints, ReadsQuery, Then, query_error_number, rejected_in}
 use Rattle.promql_lines.specs.declared.mode.Mode.{Mode}
 use Rattle.promql_lines.specs.declared.mode.Mode.TheVariants as mode
 use Rattle.promql_lines.specs.declared.query_error.QueryError.{QueryError}
@@ -37,60 +36,22 @@ value_text (mode.Plain Json) output = output
 value_text mode.Placed output = output
 value_text m output = compact_text (string output)
 
--- the line is a text that asks for a query, with a matcher in its selectors or none, and a mode, of which this is so
-abbrev pub Asks : (Text → Option Text → Mode → Type 0) → Settings → Text → Type 0
-Asks P settings line =
-    (query : Text) × (matcher : Option Text) × (m : Mode) × IsUtf8 line × (requested settings.format line ≡ Some (query, matcher, m)) × P query matcher m
+-- the query that a line asks for, the matcher to enforce if there is one, and the mode; or why it asks for none
+abbrev pub Asks : Format → Text → Result (Text × Option Text × Mode) QueryError → Type 0
+Asks format line (Ok asked) = IsUtf8 line × (requested format line ≡ Some asked)
+Asks format line (Err error.NotUtf8) = ¬ IsUtf8 line
+Asks format line (Err error.NotARequest) = IsUtf8 line × (requested format line ≡ None) × (unknown_member line ≡ None)
+Asks format line (Err (error.UnknownMember name)) = IsUtf8 line × (unknown_member line ≡ Some (string_bytes name))
+Asks format line (Err e) = e ≡ error.Memory
 
--- "Requests": what is printed where the tree was read, with the matcher in its selectors or as it is, or why that is not made
-abbrev pub IsAsked : Limits → Option Text → Tree → Result Tree QueryError → Type 0
-IsAsked limits None t made = made ≡ Ok t
-IsAsked limits (Some matcher) t made = MatchResult made (IsEnforcedWithin limits matcher t) (IsUnenforced limits matcher t)
+-- "Requests": what is printed of the query's tree, with the matcher in its selectors; no matcher is asked for beside places
+abbrev pub PrintsAsked : Limits → Text → Mode → Option Text → Tree → Result Text QueryError → Type 0
+PrintsAsked limits query (mode.Plain format) (Some matcher) t = Then (Enforces limits matcher t) (Prints limits query (mode.Plain format))
+PrintsAsked limits query m matcher t = Prints limits query m t
 
--- the text of what is printed of a tree in a format, or why there is none
-abbrev pub IsAskedPrint : Limits → Option Text → Format → Tree → Result Text QueryError → Type 0
-IsAskedPrint limits matcher format t made =
-    ((e : QueryError) × IsAsked limits matcher t (Err e) × (made ≡ Err e))
-    ⊎ ((u : Tree) × IsAsked limits matcher t (Ok u) × IsPrintOfTree limits format u made)
-
--- what is printed of the query's tree in a mode; no matcher is asked for beside places
-abbrev pub IsModePrint : Limits → Text → Option Text → Mode → Tree → Result Text QueryError → Type 0
-IsModePrint limits query matcher (mode.Plain format) t made = IsAskedPrint limits matcher format t made
-IsModePrint limits query matcher mode.Placed t made = IsPlacedPrint limits query t made
-
--- the query has a tree, and this is printed of it
-abbrev pub IsQueryPrint : Limits → Text → Option Text → Mode → Result Text QueryError → Type 0
-IsQueryPrint limits query matcher m made = (t : Tree) × IsRead limits query t × IsModePrint limits query matcher m t made
-
--- this is the answer with the text
-abbrev pub IsQueryAnswer : Limits → Text → Text → Option Text → Mode → Type 0
-IsQueryAnswer limits answer query matcher m =
-    (output : Text) × IsQueryPrint limits query matcher m (Ok output) × (answer ≡ codes "{\"ok\":" ++ (value_text m output ++ codes "}"))
-
--- the query is rejected, and what was expected is told; an allocation may fail anywhere
-abbrev pub IsToldRejection : Limits → Text → QueryError → Type 0
-IsToldRejection limits query e =
-    (e ≡ error.Memory) ⊎ ((r : RejectedQuery) × (e ≡ error.Rejected r) × IsRejection limits query r.rejection × IsToldWith query r)
-
--- when a query has this error: it is rejected; or it has a tree, and this is why that has no text
-abbrev pub FailsOnQuery : Limits → QueryError → Text → Option Text → Mode → Type 0
-FailsOnQuery limits e query matcher m = IsToldRejection limits query e ⊎ IsQueryPrint limits query matcher m (Err e)
-
--- when a line asks for nothing
-abbrev pub AsksNothing : Settings → Text → QueryError → Type 0
-AsksNothing settings line error.Memory = Unit {0}
-AsksNothing settings line error.NotUtf8 = ¬ IsUtf8 line
-AsksNothing settings line error.NotARequest = IsUtf8 line × (requested settings.format line ≡ None) × (unknown_member line ≡ None)
-AsksNothing settings line (error.UnknownMember name) = IsUtf8 line × (unknown_member line ≡ Some (string_bytes name))
-AsksNothing settings line e = ⊥
-
--- "Errors": when a line has this error
-abbrev pub FailsWith : Settings → Text → QueryError → Type 0
-FailsWith settings line e = AsksNothing settings line e ⊎ Asks (FailsOnQuery settings.limits e) settings line
-
-abbrev pub error_object : ℕ → Text → Data
-error_object code message =
-    object (member (codes "code") (number (unsigned code)) (member (codes "error") (string message) no_members))
+-- the same of a query, a matcher and a mode; where the query is rejected, it is told what was expected
+abbrev pub PrintsQuery : Limits → Text × Option Text × Mode → Result Text QueryError → Type 0
+PrintsQuery limits asked = Then (ReadsQuery (IsToldWith asked.0) limits asked.0) (PrintsAsked limits asked.0 asked.2 asked.1)
 
 abbrev pub texts : List Text → Data
 texts ts = list (map string ts)
@@ -100,9 +61,10 @@ abbrev pub with_expectation : Option Expectation → Members → Members
 with_expectation None ms = ms
 with_expectation (Some e) ms = member (codes "expected") (texts (map (λ name. name.now) e.expected.items)) (member (codes "found") (string (string_bytes e.found)) ms)
 
--- the same with the place of the error in the query
-abbrev pub rejection_object : ℕ → Text → RejectedQuery → Data
-rejection_object code message r =
+-- "Errors": the error's number, a message and, of a query that is rejected, the place
+abbrev pub error_value : ℕ → Text → Option RejectedQuery → Data
+error_value code message None = object (member (codes "code") (number (unsigned code)) (member (codes "error") (string message) no_members))
+error_value code message (Some r) =
     object (member (codes "code") (number (unsigned code))
     (member (codes "column") (number (unsigned r.rejection.location.column))
     (member (codes "end") (number (unsigned r.rejection.span.end))
@@ -111,30 +73,22 @@ rejection_object code message r =
     (member (codes "line") (number (unsigned r.rejection.location.line))
     (member (codes "start") (number (unsigned r.rejection.span.start)) no_members)))))))
 
-abbrev pub error_value : ℕ → Text → Option RejectedQuery → Data
-error_value code message None = error_object code message
-error_value code message (Some r) = rejection_object code message r
-
--- the error's number, some message and, of a query that is rejected, the place
 abbrev pub IsErrorText : QueryError → Text → Type 0
 IsErrorText e printed = (message : Text) × (printed ≡ compact_text (error_value (query_error_number e) message (rejected_in e)))
 
 -- an answer to the line, without an id, and whether it is an `ok`
 abbrev pub IsPlainAnswer : Settings → Text → Text → Bool → Type 0
-IsPlainAnswer settings line answer true = Asks (IsQueryAnswer settings.limits answer) settings line
-IsPlainAnswer settings line answer false = (e : QueryError) × FailsWith settings line e × IsErrorText e answer
+IsPlainAnswer settings line answer true =
+    (asked : Text × Option Text × Mode) × Asks settings.format line (Ok asked) × ((output : Text) × PrintsQuery settings.limits asked (Ok output)
+    × (answer ≡ codes "{\"ok\":" ++ (value_text asked.2 output ++ codes "}")))
+IsPlainAnswer settings line answer false =
+    (e : QueryError) × Then (Asks settings.format line) (PrintsQuery settings.limits) (Err e) × IsErrorText e answer
 
--- the text is the value as JSON, without a space
-abbrev pub IsJsonOf : Data → Text → Type 0
-IsJsonOf d text = (read text ≡ Some d) × (text ≡ print (tokens text))
-
--- an object with an id before its other members
-abbrev pub id_before : Text → Text → Text
-id_before id members = codes "{\"id\":" ++ (id ++ (codes "," ++ members))
-
+-- the answer's members are these after an id, if there is one: the text of that as JSON, without a space
 abbrev pub HasId : Option Data → Text → Text → Type 0
 HasId None members printed = printed ≡ codes "{" ++ members
-HasId (Some d) members printed = (id : Text) × IsJsonOf d id × (printed ≡ id_before id members)
+HasId (Some d) members printed =
+    (id : Text) × (read id ≡ Some d) × (id ≡ print (tokens id)) × (printed ≡ codes "{\"id\":" ++ (id ++ (codes "," ++ members)))
 
 -- a line that is no text has no id
 abbrev pub IsIdOf : Text → Option Data → Type 0
@@ -168,44 +122,33 @@ pub record Answer : Type 0 where
   pub text : Text
   pub is_ok : Bool
 
--- these are answers to their lines, and were written, a line each
-pub record AreWritten (settings : Settings) (held held_after : Option (List ℕ)) (answers : List Answer) : Type 0 where
+-- the lines of this input have these answers; it was read, and the answers were written, a line each
+pub record AreAnswered (settings : Settings) (left left_now held held_now : Option (List ℕ)) (input : Text) (answers : List Answer) : Type 0 where
   pub each : AllByRecursion (λ a. IsLineAnswer settings a.line a.text a.is_ok) answers
-  pub written : Appends held held_after (ended_lines (map (λ a. a.text) answers))
+  pub lines : AreLines input (map (λ a. a.line) answers)
+  pub read : Consumes left left_now input
+  pub written : Appends held held_now (ended_lines (map (λ a. a.text) answers))
 
 -- all of the input was read, each of its lines was answered, and whether each with an `ok`
-pub record AnswersLines (settings : Settings) (left left_after held held_after : Option (List ℕ)) (all_ok : Bool) : Type 0 where
-  pub input : Text
-  pub all : IfSome left (λ bytes. bytes ≡ input)
-  pub read : Consumes left left_after input
-  pub answers : List Answer
-  pub are : AreLines input (map (λ a. a.line) answers)
-  pub written : AreWritten settings held held_after answers
-  pub ok : all_ok ≡ list_all (λ a. a.is_ok) answers
+abbrev pub AnswersLines : Settings → Option (List ℕ) → Option (List ℕ) → Option (List ℕ) → Option (List ℕ) → Bool → Type 0
+AnswersLines settings left left_after held held_after all_ok =
+    (input : Text) × (answers : List Answer) × AreAnswered settings left left_after held held_after input answers
+    × IfSome left (λ bytes. bytes ≡ input) × (all_ok ≡ list_all (λ a. a.is_ok) answers)
 
--- a read failed: the lines that were read whole are answered, and of one more a part may have been read
-pub record AnswersBefore (settings : Settings) (left left_after held held_after : Option (List ℕ)) : Type 0 where
-  pub answers : List Answer
-  pub part : Text
-  pub read : Consumes left left_after (ended_lines (map (λ a. a.line) answers) ++ part)
-  pub single : AllByRecursion (All (λ b. b ≢ 10)) (map (λ a. a.line) answers)
-  pub within : StopsAt part 10
-  pub written : AreWritten settings held held_after answers
+-- lines that were read whole are answered
+abbrev pub AnswersWhole : Settings → Option (List ℕ) → Option (List ℕ) → Option (List ℕ) → Option (List ℕ) → Type 0
+AnswersWhole settings left left_now held held_now =
+    (answers : List Answer) × AreAnswered settings left left_now held held_now (ended_lines (map (λ a. a.line) answers)) answers
 
--- a write failed: all lines that were read but the last are answered, and a beginning of its answer was written
-pub record BeginsToAnswer (settings : Settings) (left left_after held held_after : Option (List ℕ)) : Type 0 where
-  pub answers : List Answer
-  pub last : Answer
-  pub input : Text
-  pub read : Consumes left left_after input
-  pub are : AreLines input (map (λ a. a.line) answers ++ last.line ∷ [])
-  pub held_before : Option (List ℕ)
-  pub written : AreWritten settings held held_before answers
-  pub is : IsLineAnswer settings last.line last.text last.is_ok
-  pub begun : AppendsBeginning held_before held_after (last.text ++ 10 ∷ [])
+-- a read failed: so are they, and of one more line a part may have been read
+abbrev pub AnswersBefore : Settings → Option (List ℕ) → Option (List ℕ) → Option (List ℕ) → Option (List ℕ) → Type 0
+AnswersBefore settings left left_after held held_after =
+    (left_now : Option (List ℕ)) × AnswersWhole settings left left_now held held_after × ((part : Text) × Consumes left_now left_after part × StopsAt part 10)
 
--- what a failed write leaves: the answers up to one that was begun, or all of them, not flushed
+-- a write failed: so are they, one more line was read, and a beginning of its answer was written; or all are answered, and not flushed
 abbrev pub IsCutShort : Settings → Option (List ℕ) → Option (List ℕ) → Option (List ℕ) → Option (List ℕ) → Type 0
 IsCutShort settings left left_after held held_after =
-    BeginsToAnswer settings left left_after held held_after
+    ((left_now : Option (List ℕ)) × (held_now : Option (List ℕ)) × AnswersWhole settings left left_now held held_now
+    × ((last : Answer) × IsLineAnswer settings last.line last.text last.is_ok × ((input : Text) × AreLines input (last.line ∷ [])
+    × Consumes left_now left_after input × AppendsBeginning held_now held_after (last.text ++ 10 ∷ []))))
     ⊎ ((all_ok : Bool) × AnswersLines settings left left_after held held_after all_ok)

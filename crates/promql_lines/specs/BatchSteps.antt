@@ -1,21 +1,37 @@
 -- What each step of a batch does. Private: nothing rests on believing it.
-use Rattle.std.specs.Prelude.{◌≡◌, ◌≢◌, ℕ, ◌++◌, List, [], ◌∷◌, All, Bool, true, IfSome, Option, Some, None, Ok, codes}
+use Rattle.std.specs.Prelude.{◌≡◌, ◌≢◌, ℕ, ◌++◌, List, [], ◌∷◌, All, Bool, true, IfSome, if◌then◌else◌, MatchOption, Option, Some, None, Result, Ok, Err, codes}
 use Rattle.std.specs.Io.{StopsAt}
 use Rattle.std.specs.List.{AllByRecursion}
 use Rattle.std.specs.Io.KnownBytes.{Appends, Consumes}
+use Rattle.json.specs.Lex.{tokens}
+use Rattle.json.specs.Print.{print}
+use Rattle.serde_json.specs.Data.{Data}
+use Rattle.serde_json.specs.Read.{read}
 use Rattle.promql_text.specs.Texts.{Text}
 use Rattle.promql_ast.specs.Tree.{Tree}
 use Rattle.promql_io.specs.Ended.{AppendsBeginning}
+use Rattle.promql_report.specs.Rejecting.{IsTold}
+use Rattle.promql_report.specs.declared.rejection.Rejection.{Rejection}
+use Rattle.promql_rewrite.specs.Faithful.{IsLineOf, Means}
+use Rattle.promql_span.specs.QueryLimits.{IsWithin}
 use Rattle.promql_span.specs.declared.limits.Limits.{Limits}
+use Rattle.promql_span.specs.declared.unexpected.Unexpected.{Unexpected}
+use Rattle.promql_run.specs.Running.{format_text}
 use Rattle.promql_run.specs.declared.format.Format.{Format}
+use Rattle.promql_run.specs.declared.format.Format.TheVariants as format
 use Rattle.promql_run.specs.declared.run.RunError.{RunError}
 use Rattle.promql_run.specs.declared.run.RunError.TheVariants as error
-use Rattle.promql_lines.specs.Batch.{IsAskedPrint, IsLineAnswer, IsModePrint, IsPlainAnswer, value_text}
-use Rattle.promql_lines.specs.QueryErrors.{IsPlacedPrint, IsPrintOfTree}
+use Rattle.promql_lines.specs.Batch.{Asks, IsLineAnswer, IsPlainAnswer, PrintsAsked, PrintsQuery, value_text}
+use Rattle.promql_lines.specs.EnforcedLines.{Enforces}
+use Rattle.promql_lines.specs.QueryErrors.{Prints, Then}
+use Rattle.promql_lines.specs.Requests.{is_member_name}
+use Rattle.promql_lines.specs.Telling.{Tells}
 use Rattle.promql_lines.specs.declared.batch.LineEnd.{LineEnd}
 use Rattle.promql_lines.specs.declared.batch.LineEnd.TheVariants.{Feed, Input}
 use Rattle.promql_lines.specs.declared.mode.Mode.{Mode}
 use Rattle.promql_lines.specs.declared.mode.Mode.TheVariants as mode
+use Rattle.promql_lines.specs.declared.query_error.QueryError.{QueryError}
+use Rattle.promql_lines.specs.declared.rejected_query.Expectation.{Expectation}
 use Rattle.promql_lines.specs.declared.settings.Settings.{Settings}
 
 abbrev pub HasNoFeed : Text → Type 0
@@ -54,25 +70,70 @@ IsPartlyAnswered settings line held held_after =
 abbrev pub IsOkLine : Settings → Text → Text → Type 0
 IsOkLine settings line printed = IsPlainAnswer settings line printed true
 
--- the answer with what is printed of a tree
+-- why the line has no such answer
+abbrev pub FailsWith : Settings → Text → QueryError → Type 0
+FailsWith settings line e = Then (Asks settings.format line) (PrintsQuery settings.limits) (Err e)
+
+-- the answer with a text that is printed so
+abbrev pub IsAnswerWith : Mode → (Result Text QueryError → Type 0) → Text → Type 0
+IsAnswerWith m IsPrint answer = (output : Text) × IsPrint (Ok output) × (answer ≡ codes "{\"ok\":" ++ (value_text m output ++ codes "}"))
+
+-- what is printed of a tree in a format
+abbrev pub PrintsFormat : Limits → Format → Tree → Result Text QueryError → Type 0
+PrintsFormat limits format = Prints limits [] (mode.Plain format)
+
 abbrev pub IsTreeAnswer : Limits → Format → Tree → Text → Type 0
-IsTreeAnswer limits format t answer =
-    (output : Text) × IsPrintOfTree limits format t (Ok output) × (answer ≡ codes "{\"ok\":" ++ (value_text (mode.Plain format) output ++ codes "}"))
+IsTreeAnswer limits format t = IsAnswerWith (mode.Plain format) (PrintsFormat limits format t)
 
--- the same with a matcher in its selectors, or none
+-- the tree with a matcher in its selectors, or as it is
+abbrev pub IsAsked : Limits → Option Text → Tree → Result Tree QueryError → Type 0
+IsAsked limits None t made = made ≡ Ok t
+IsAsked limits (Some matcher) t made = Enforces limits matcher t made
+
+-- what is printed of that
+abbrev pub IsAskedPrint : Limits → Option Text → Format → Tree → Result Text QueryError → Type 0
+IsAskedPrint limits matcher format t = Then (IsAsked limits matcher t) (PrintsFormat limits format)
+
 abbrev pub IsAskedAnswer : Limits → Option Text → Format → Tree → Text → Type 0
-IsAskedAnswer limits matcher format t answer =
-    (output : Text) × IsAskedPrint limits matcher format t (Ok output) × (answer ≡ codes "{\"ok\":" ++ (value_text (mode.Plain format) output ++ codes "}"))
+IsAskedAnswer limits matcher format t = IsAnswerWith (mode.Plain format) (IsAskedPrint limits matcher format t)
 
--- the same with the JSON form of this query's tree with places
+-- the answer with the JSON form of this query's tree with places
 abbrev pub IsPlacedAnswer : Limits → Text → Tree → Text → Type 0
-IsPlacedAnswer limits query t answer =
-    (output : Text) × IsPlacedPrint limits query t (Ok output) × (answer ≡ codes "{\"ok\":" ++ (output ++ codes "}"))
+IsPlacedAnswer limits query t = IsAnswerWith mode.Placed (Prints limits query mode.Placed t)
 
--- the same in a mode
+-- the answer in a mode
 abbrev pub IsModeAnswer : Limits → Text → Option Text → Mode → Tree → Text → Type 0
-IsModeAnswer limits query matcher m t answer =
-    (output : Text) × IsModePrint limits query matcher m t (Ok output) × (answer ≡ codes "{\"ok\":" ++ (value_text m output ++ codes "}"))
+IsModeAnswer limits query matcher m t = IsAnswerWith m (PrintsAsked limits query m matcher t)
+
+-- the answer to a query
+abbrev pub IsQueryAnswer : Limits → Text → Text → Option Text → Mode → Type 0
+IsQueryAnswer limits answer query matcher m = IsAnswerWith m (PrintsQuery limits (query, matcher, m)) answer
+
+-- the text is the value as JSON, without a space
+abbrev pub IsJsonOf : Data → Text → Type 0
+IsJsonOf d text = (read text ≡ Some d) × (text ≡ print (tokens text))
+
+-- an object with an id before its other members
+abbrev pub id_before : Text → Text → Text
+id_before id members = codes "{\"id\":" ++ (id ++ (codes "," ++ members))
+
+-- exactly where a rejection tells it
+abbrev pub TellsAll : Text → Rejection → Option Expectation → Type 0
+TellsAll query r o = MatchOption o (IsTold query r None) (λ e. (u : Unexpected) × IsTold query r (Some u) × Tells u e)
+
+-- the line of the tree, which is within the limits and means the tree
+abbrev pub IsLineWithin : Limits → Tree → Text → Type 0
+IsLineWithin limits t line = IsWithin line limits × IsLineOf t line
+
+-- the text of a tree in a format; a layout means the tree, too
+abbrev pub IsFormatOf : Format → Tree → Text → Type 0
+IsFormatOf (format.Pretty layout) t s = (format_text (format.Pretty layout) t ≡ Ok s) × Means s t
+IsFormatOf f t s = format_text f t ≡ Ok s
+
+-- the first of these names that no request has
+abbrev pub first_unknown : List Text → Option Text
+first_unknown [] = None
+first_unknown (key ∷ keys) = if is_member_name key then first_unknown keys else Some key
 
 abbrev pub IsReadingError : RunError → Type 0
 IsReadingError error.Memory = Unit {0}

@@ -1,17 +1,12 @@
 -- The layout of a query for people (docs/reference/formatting.md, "What is promised").
-use Rattle.std.specs.Prelude.{◌≡◌, ◌⊎◌, Bool}
+use Rattle.std.specs.Prelude.{◌≡◌, Bool, Result}
 use Rattle.promql_text.specs.Texts.{Text}
 use Rattle.promql_formatter.specs.Formats.{IsFormatOf}
-use Rattle.promql_report.specs.Rejecting.{IsParsed}
 use Rattle.promql_span.specs.declared.limits.Limits.{Limits}
-use Rattle.promql_lines.specs.QueryErrors.{FailsOn}
+use Rattle.promql_lines.specs.QueryErrors.{Gives, OfTree}
 use Rattle.promql_lines.specs.declared.query_error.QueryError.{QueryError}
 use Rattle.promql_lines.specs.declared.query_error.QueryError.TheVariants as error
 
--- the query has a tree, and this is a layout of it
-abbrev pub IsFormattedQuery : Limits → Bool → Text → Text → Type 0
-IsFormattedQuery limits keeps query layout = IsParsed limits query × IsFormatOf keeps query layout
-
--- why it has none
-abbrev pub FailsToFormat : Limits → Text → QueryError → Type 0
-FailsToFormat limits query = FailsOn (λ t e. (e ≡ error.NotFormatted) ⊎ (e ≡ error.Memory)) limits query
+-- a layout of the query, which has its tree and its comments; or none that reads back was made
+abbrev pub IsFormattedQuery : Limits → Bool → Text → Result Text QueryError → Type 0
+IsFormattedQuery limits keeps query = OfTree limits query (λ t. Gives (IsFormatOf keeps query) (λ e. e ≡ error.NotFormatted))

@@ -15,6 +15,8 @@ use Rattle.promql_span.specs.declared.limits.LimitFault.{LimitFault}
 use Rattle.promql_span.specs.declared.limits.LimitFault.TheVariants as limit
 use Rattle.promql_span.specs.declared.limits.Limits.{Limits}
 use Rattle.promql_span.specs.declared.limits.LongOutput.{LongOutput}
+use Rattle.promql_lines.specs.declared.mode.Mode.{Mode}
+use Rattle.promql_lines.specs.declared.mode.Mode.TheVariants as mode
 use Rattle.promql_lines.specs.declared.query_error.QueryError.{QueryError}
 use Rattle.promql_lines.specs.declared.query_error.QueryError.TheVariants as error
 use Rattle.promql_lines.specs.declared.rejected_query.RejectedQuery.{RejectedQuery}
@@ -46,28 +48,30 @@ abbrev pub rejected_in : QueryError → Option RejectedQuery
 rejected_in (error.Rejected r) = Some r
 rejected_in e = None
 
--- ---- when an error comes; an allocation may fail anywhere
+-- ---- what is made: a text or a tree, or an error; an allocation may fail anywhere
 
--- the query is rejected
-abbrev pub HasNoTree : Limits → Text → QueryError → Type 0
-HasNoTree limits query error.Memory = Unit {0}
-HasNoTree limits query (error.Rejected r) = IsRejection limits query r.rejection
-HasNoTree limits query e = ⊥
+-- a thing that is so, or an error that is so
+abbrev pub Gives : {A : Type 0} → (A → Type 0) → (QueryError → Type 0) → Result A QueryError → Type 0
+Gives Is Fails (Ok x) = Is x
+Gives Is Fails (Err e) = Fails e ⊎ (e ≡ error.Memory)
 
--- or it has a tree, of which this is so
-abbrev pub FailsOn : (Tree → QueryError → Type 0) → Limits → Text → QueryError → Type 0
-FailsOn Fails limits query e = HasNoTree limits query e ⊎ ((t : Tree) × IsRead limits query t × Fails t e)
+-- one step, and another with what it made; an error of the first is one of both
+abbrev pub Then : {A B : Type 0} → (Result A QueryError → Type 0) → (A → Result B QueryError → Type 0) → Result B QueryError → Type 0
+Then {A} First Next (Ok y) = (x : A) × First (Ok x) × Next x (Ok y)
+Then {A} First Next (Err e) = First (Err e) ⊎ ((x : A) × First (Ok x) × Next x (Err e))
+
+-- the tree of a query, or why it is rejected, and this of that
+abbrev pub ReadsQuery : (RejectedQuery → Type 0) → Limits → Text → Result Tree QueryError → Type 0
+ReadsQuery IsSo limits query =
+    Gives (IsRead limits query) (λ e. (r : RejectedQuery) × (e ≡ error.Rejected r) × IsRejection limits query r.rejection × IsSo r)
+
+-- what is made of the tree of a query; where that is rejected, it is not told what was expected
+abbrev pub OfTree : Limits → Text → (Tree → Result Text QueryError → Type 0) → Result Text QueryError → Type 0
+OfTree limits query = Then (ReadsQuery (λ r. r.expectation ≡ None) limits query)
 
 -- the text is not within the limits, and this is why
 abbrev pub IsOver : Limits → Text → LimitFault → Type 0
 IsOver limits s fault = IsLimitFault s limits fault × (fault ≢ limit.Memory)
-
--- ---- what is made: a text, or an error
-
--- a text that is so
-abbrev pub Gives : (Text → Type 0) → Result Text QueryError → Type 0
-Gives Is (Ok text) = Is text
-Gives Is (Err e) = e ≡ error.Memory
 
 -- the text, if it is within the limits of an output
 abbrev pub IsOutput : Limits → Text → Result Text QueryError → Type 0
@@ -75,19 +79,12 @@ IsOutput limits text made =
     ((length text ≤ limits.max_output) × (made ≡ Ok text))
     ⊎ ((fault : LongOutput) × IsLongOutput text limits fault × (made ≡ Err (error.LongOutput fault)))
 
--- such a text that is so, or an error that is so
-abbrev pub GivesOr : (QueryError → Type 0) → Limits → (Text → Type 0) → Result Text QueryError → Type 0
-GivesOr Fails limits Is made = ((text : Text) × Is text × IsOutput limits text made) ⊎ ((e : QueryError) × Fails e × (made ≡ Err e))
-
 -- why a tree has no text in a format
 abbrev pub HasNoText : Format → Tree → QueryError → Type 0
-HasNoText format t e = (e ≡ error.Memory) ⊎ ((f : JsonError) × (format_text format t ≡ Err f) × (e ≡ error.NoForm f))
+HasNoText format t e = (f : JsonError) × (format_text format t ≡ Err f) × (e ≡ error.NoForm f)
 
--- the text of a tree in a format, if it has one
-abbrev pub IsPrintOfTree : Limits → Format → Tree → Result Text QueryError → Type 0
-IsPrintOfTree limits format t = GivesOr (HasNoText format t) limits (λ text. format_text format t ≡ Ok text)
-
--- the text of the JSON form of this query's tree with places, if it has a form
-abbrev pub IsPlacedPrint : Limits → Text → Tree → Result Text QueryError → Type 0
-IsPlacedPrint limits query t =
-    GivesOr (HasNoText Json t) limits (λ text. (d : Data) × IsPlacedForm query t d × (text ≡ compact_text d))
+-- what is printed of this query's tree in a mode: its text in a format, or that of its form with places
+abbrev pub Prints : Limits → Text → Mode → Tree → Result Text QueryError → Type 0
+Prints limits query (mode.Plain format) t = Then (Gives (λ text. format_text format t ≡ Ok text) (HasNoText format t)) (IsOutput limits)
+Prints limits query mode.Placed t =
+    Then (Gives (λ text. (d : Data) × IsPlacedForm query t d × (text ≡ compact_text d)) (HasNoText Json t)) (IsOutput limits)

@@ -1,14 +1,11 @@
 -- The line of a query with another name for a metric or a label (docs/guide/rewriting.md, "Renaming").
-use Rattle.std.specs.Prelude.{◌≡◌, ◌⊎◌, ◌||◌, if◌then◌else◌, Option, Some, None}
+use Rattle.std.specs.Prelude.{◌≡◌, ◌||◌, if◌then◌else◌, Option, Some, None, Result}
 use Rattle.promql_text.specs.Texts.{Text}
 use Rattle.promql_ast.specs.Tree.{Tree}
-use Rattle.promql_rewrite.specs.Faithful.{IsLineOf}
 use Rattle.promql_rewrite.specs.Renaming.{Renaming, of_label, of_metric, clashes, is_metric_label, is_name, renamed}
-use Rattle.promql_report.specs.Rejecting.{IsRead}
-use Rattle.promql_span.specs.QueryLimits.{IsWithin}
 use Rattle.promql_span.specs.declared.limits.Limits.{Limits}
-use Rattle.promql_lines.specs.LinesWithin.{HasNoLine}
-use Rattle.promql_lines.specs.QueryErrors.{FailsOn}
+use Rattle.promql_lines.specs.LinesWithin.{HasLine}
+use Rattle.promql_lines.specs.QueryErrors.{Gives, OfTree, Then}
 use Rattle.promql_lines.specs.declared.renamed_line.Named.{Named}
 use Rattle.promql_lines.specs.declared.renamed_line.Named.TheVariants as named
 use Rattle.promql_lines.specs.declared.query_error.Measured.TheVariants as measured
@@ -25,16 +22,10 @@ rename_fault (of_metric from to) t = if is_name to then None else Some error.Not
 rename_fault (of_label from to) t =
     if is_metric_label from || is_metric_label to then Some error.MetricName else if clashes from to t then Some error.Clash else None
 
--- the query has a tree, and this is its line with the new name
-abbrev pub IsRenamedLine : Limits → Text → Renaming → Text → Type 0
-IsRenamedLine limits query r line =
-    (t : Tree) × IsRead limits query t × (rename_fault r t ≡ None) × IsWithin line limits × IsLineOf (renamed r t) line
+-- the tree with the new name, where that may stand for the old one
+abbrev pub Renames : Renaming → Tree → Result Tree QueryError → Type 0
+Renames r t = Gives (λ u. (rename_fault r t ≡ None) × (u ≡ renamed r t)) (λ e. rename_fault r t ≡ Some e)
 
--- why the tree has no such line
-abbrev pub FailsToRename : Limits → Renaming → Tree → QueryError → Type 0
-FailsToRename limits r t e =
-    (rename_fault r t ≡ Some e) ⊎ ((rename_fault r t ≡ None) × HasNoLine measured.RenamedLine limits (renamed r t) e) ⊎ (e ≡ error.Memory)
-
--- why the query has none; the names count only where the query has a tree
-abbrev pub FailsToShowRenamed : Limits → Text → Renaming → QueryError → Type 0
-FailsToShowRenamed limits query r = FailsOn (FailsToRename limits r) limits query
+-- the line of a query's tree with the new name; the names count only where the query has a tree
+abbrev pub IsRenamedLine : Limits → Text → Renaming → Result Text QueryError → Type 0
+IsRenamedLine limits query r = OfTree limits query (λ t. Then (Renames r t) (HasLine measured.RenamedLine limits))

@@ -1,5 +1,6 @@
 -- What a line of a batch asks for (docs/reference/programs.md, "Requests").
-use Rattle.std.specs.Prelude.{ℕ, ◌-◌, ◌^◌, Bool, true, false, List, [], ◌∷◌, Option, Some, None, ◌||◌, ◌&&◌, if◌then◌else◌, option_and_then, option_map, is_none, is_some, bytes_eq, codes, nat_le}
+use Rattle.std.specs.Prelude.{ℕ, ◌-◌, ◌^◌, Bool, true, false, [], ◌∷◌, Option, Some, None, ◌&&◌, if◌then◌else◌, option_and_then, option_map, is_none, is_some, bytes_eq, codes, nat_le}
+use Rattle.std.specs.List.{list_any}
 use Rattle.std.specs.Option.{option_map_or}
 use Rattle.serde_json.specs.Data.{Data, string, object, Members, no_members, member}
 use Rattle.serde_json.specs.Read.{read}
@@ -13,20 +14,15 @@ use Rattle.promql_run.specs.Running.{format_named}
 
 abbrev pub is_member_name : Text → Bool
 is_member_name key =
-    bytes_eq key (codes "query") || bytes_eq key (codes "mode") || bytes_eq key (codes "level") || bytes_eq key (codes "width")
-    || bytes_eq key (codes "enforce") || bytes_eq key (codes "places") || bytes_eq key (codes "id")
+    list_any (bytes_eq key) (codes "query" ∷ codes "mode" ∷ codes "level" ∷ codes "width" ∷ codes "enforce" ∷ codes "places" ∷ codes "id" ∷ [])
 
-abbrev pub member_names : Members → List Text
-member_names no_members = []
-member_names (member key d ms) = key ∷ member_names ms
-
--- the first that no request has
-abbrev pub unknown_name : List Text → Option Text
-unknown_name [] = None
-unknown_name (key ∷ keys) = if is_member_name key then unknown_name keys else Some key
+-- the first member that no request has
+abbrev pub unknown_name : Members → Option Text
+unknown_name no_members = None
+unknown_name (member key d ms) = if is_member_name key then unknown_name ms else Some key
 
 abbrev pub unknown_in : Data → Option Text
-unknown_in (object ms) = unknown_name (member_names ms)
+unknown_in (object ms) = unknown_name ms
 unknown_in _ = None
 
 -- the query
@@ -37,10 +33,6 @@ query_in d = option_and_then as_str (get (codes "query") d)
 -- the text of the matcher to enforce, if there is one
 abbrev pub matcher_in : Data → Option Text
 matcher_in d = option_and_then as_str (get (codes "enforce") d)
-
--- a text, if there is such a member
-abbrev pub is_text : Option Data → Bool
-is_text d = option_map_or (λ d. is_some (as_str d)) d true
 
 -- the format of the member `mode`, or of the command
 abbrev pub named_in : Format → Option Data → Option Format
@@ -62,7 +54,7 @@ format_with level width other = None
 -- how the query is printed, where the command asks for this format
 abbrev pub format_in : Format → Data → Option Format
 format_in asked d =
-    if is_none (unknown_in d) && is_text (get (codes "enforce") d)
+    if is_none (unknown_in d) && option_map_or (λ matcher. is_some (as_str matcher)) (get (codes "enforce") d) true
     then option_and_then (format_with (get (codes "level") d) (get (codes "width") d)) (named_in asked (get (codes "mode") d))
     else None
 

@@ -1,10 +1,9 @@
 -- What is told of a rejected query beside its place (docs/reference/grammar.md, "What is expected").
-use Rattle.std.specs.Prelude.{◌≡◌, Option, Some, None, option_map, string_bytes}
+use Rattle.std.specs.Prelude.{◌≡◌, MatchOption, Some, None, option_map, string_bytes}
 use Rattle.promql_text.specs.Texts.{Text}
 use Rattle.promql_span.specs.Unexpected.{found_name, unexpected_text}
 use Rattle.promql_span.specs.declared.unexpected.Unexpected.{Unexpected}
 use Rattle.promql_report.specs.Rejecting.{IsTold}
-use Rattle.promql_report.specs.declared.rejection.Rejection.{Rejection}
 use Rattle.promql_lines.specs.declared.rejected_query.Expectation.{Expectation}
 use Rattle.promql_lines.specs.declared.rejected_query.RejectedQuery.{RejectedQuery}
 
@@ -15,9 +14,6 @@ pub record Tells (u : Unexpected) (e : Expectation) : Type 0 where
   pub message : string_bytes e.message ≡ unexpected_text u
 
 -- exactly where a rejection tells it
-abbrev pub TellsAll : Text → Rejection → Option Expectation → Type 0
-TellsAll query r (Some e) = (u : Unexpected) × IsTold query r (Some u) × Tells u e
-TellsAll query r None = IsTold query r None
-
 abbrev pub IsToldWith : Text → RejectedQuery → Type 0
-IsToldWith query r = TellsAll query r.rejection r.expectation
+IsToldWith query r =
+    MatchOption r.expectation (IsTold query r.rejection None) (λ e. (u : Unexpected) × IsTold query r.rejection (Some u) × Tells u e)

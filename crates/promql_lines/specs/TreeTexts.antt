@@ -1,5 +1,5 @@
 -- The text of a tree that is given as JSON (docs/reference/json.md, "From JSON to a text").
-use Rattle.std.specs.Prelude.{◌≡◌, ◌≢◌, ◌⊎◌, Bool, if◌then◌else◌, Some, Ok, Err}
+use Rattle.std.specs.Prelude.{◌≡◌, ◌≢◌, Bool, if◌then◌else◌, Some, Result, Ok, Err}
 use Rattle.serde_json.specs.Data.{Data}
 use Rattle.serde_json.specs.Read.{read}
 use Rattle.promql_text.specs.Texts.{Text}
@@ -14,54 +14,32 @@ use Rattle.promql_rewrite.specs.Faithful.{IsLineOf, Means}
 use Rattle.promql_rewrite.specs.Parenthesizing.{parenthesized}
 use Rattle.promql_rewrite.specs.Reasons.{IsReason}
 use Rattle.promql_run.specs.Running.{format_text}
-use Rattle.promql_lines.specs.QueryErrors.{IsOver}
+use Rattle.promql_lines.specs.QueryErrors.{IsOver, Then}
 use Rattle.promql_run.specs.declared.format.Format.{Format}
 use Rattle.promql_run.specs.declared.format.Format.TheVariants as format
 use Rattle.promql_lines.specs.declared.query_error.QueryError.{QueryError}
 use Rattle.promql_lines.specs.declared.query_error.QueryError.TheVariants as error
 
--- the text is JSON, and the form of the tree
-abbrev pub IsFormTree : Text → Tree → Type 0
-IsFormTree form t = (d : Data) × (read form ≡ Some d) × (json t ≡ Ok d)
-
--- the tree, or the tree with parentheses where it needs them
-abbrev pub has_parens : Bool → Tree → Tree
-has_parens parens t = if parens then parenthesized t else t
+-- the tree whose form the text is; else the text is no JSON, or JSON that is the form of no readable tree
+abbrev pub ReadsForm : Text → Result Tree QueryError → Type 0
+ReadsForm form (Ok t) = (d : Data) × (read form ≡ Some d) × (json t ≡ Ok d)
+ReadsForm form (Err (error.NotATree e)) = (e ≢ from.Memory) × ((d : Data) → read form ≡ Some d → IsNoForm d)
+ReadsForm form (Err e) = e ≡ error.Memory
 
 -- the line of the tree is within the limits, and means the tree
-abbrev pub IsLineWithin : Limits → Tree → Text → Type 0
-IsLineWithin limits t line = IsWithin line limits × IsLineOf t line
+abbrev pub HasLineWithin : Limits → Tree → Type 0
+HasLineWithin limits t = IsWithin (line_text t) limits × IsLineOf t (line_text t)
 
--- the text of a tree in a format; a layout means the tree, too
-abbrev pub IsFormatOf : Format → Tree → Text → Type 0
-IsFormatOf (format.Pretty layout) t s = (format_text (format.Pretty layout) t ≡ Ok s) × Means s t
-IsFormatOf f t s = format_text f t ≡ Ok s
+-- the text in a format of a tree that has such a line, which means the tree, if it is no form; or the line is not within the limits; or it
+-- is, and this is why it does not mean the tree; or the tree has such a line, and no layout that means it, or no form
+abbrev pub PrintsTree : Limits → Format → Tree → Result Text QueryError → Type 0
+PrintsTree limits f t (Ok s) = HasLineWithin limits t × (format_text f t ≡ Ok s) × (f ≢ format.Json → Means s t)
+PrintsTree limits f t (Err (error.LargeTree fault)) = IsOver limits (line_text t) fault
+PrintsTree limits f t (Err (error.NotPrintable reason)) = IsWithin (line_text t) limits × IsReason reason t
+PrintsTree limits f t (Err (error.Unfaithful e)) = HasLineWithin limits t
+PrintsTree limits f t (Err (error.NoForm e)) = HasLineWithin limits t × (json t ≡ Err e)
+PrintsTree limits f t (Err e) = e ≡ error.Memory
 
-abbrev pub IsTextOfTree : Limits → Format → Tree → Text → Type 0
-IsTextOfTree limits f t s = IsLineWithin limits t (line_text t) × IsFormatOf f t s
-
--- the text of the tree whose form is given
-abbrev pub IsTextOfForm : Limits → Format → Bool → Text → Text → Type 0
-IsTextOfForm limits f parens form s = (t : Tree) × IsFormTree form t × IsTextOfTree limits f (has_parens parens t) s
-
--- ---- why there is none
-
--- the text is no JSON, or JSON that is the form of no readable tree
-abbrev pub IsNoTreeForm : Text → QueryError → Type 0
-IsNoTreeForm form error.Memory = Unit {0}
-IsNoTreeForm form (error.NotATree e) = (e ≢ from.Memory) × ((d : Data) → read form ≡ Some d → IsNoForm d)
-IsNoTreeForm form e = ⊥
-
--- the line is not within the limits; or it is, and this is why it does not mean the tree; or the tree has a line and no form
-abbrev pub FailsToShowTree : Limits → Tree → QueryError → Type 0
-FailsToShowTree limits t error.Memory = Unit {0}
-FailsToShowTree limits t (error.LargeTree fault) = IsOver limits (line_text t) fault
-FailsToShowTree limits t (error.NotPrintable reason) = IsWithin (line_text t) limits × IsReason reason t
-FailsToShowTree limits t (error.Unfaithful e) = IsLineWithin limits t (line_text t)
-FailsToShowTree limits t (error.NoForm e) = IsLineWithin limits t (line_text t) × (json t ≡ Err e)
-FailsToShowTree limits t e = ⊥
-
--- a form is given that is none, or that of a tree without a text
-abbrev pub FailsToShowForm : Limits → Bool → Text → QueryError → Type 0
-FailsToShowForm limits parens form e =
-    IsNoTreeForm form e ⊎ ((t : Tree) × IsFormTree form t × FailsToShowTree limits (has_parens parens t) e)
+-- the text of the tree whose form is given, or of that with parentheses where it needs them
+abbrev pub PrintsForm : Limits → Format → Bool → Text → Result Text QueryError → Type 0
+PrintsForm limits f parens form = Then (ReadsForm form) (λ t. PrintsTree limits f (if parens then parenthesized t else t))

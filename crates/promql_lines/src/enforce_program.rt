@@ -1,11 +1,11 @@
 //! The program that enforces a matcher on a query, as a function of its arguments, its input and its two outputs:
 //! docs/reference/programs.md, "One query, enforced".
 
-ghost use Rattle.std.specs.Prelude.{◌≡◌, true, IfErr, IfOk, map, option_map, string_bytes};
+ghost use Rattle.std.specs.Prelude.{◌≡◌, true, Err, IfErr, IfOk, map, option_map, string_bytes};
 ghost use Rattle.promql_text.specs.Texts.{Text};
 ghost use Rattle.promql_run.specs.Programs.{AnswersQuery, Obeys};
 ghost use Rattle.promql_lines.specs.EnforcedLines as spec;
-ghost use Rattle.promql_lines.specs.EnforcedLines.{FailsToEnforce, IsEnforcedAnswer, enforce_command};
+ghost use Rattle.promql_lines.specs.EnforcedLines.{IsEnforcedAnswer, IsEnforcedLine, enforce_command};
 ghost use Rattle.promql_lines.specs.QueryErrors.{query_error_number};
 ghost use Rattle.promql_span.specs.declared.limits.Limits as spans;
 
@@ -55,7 +55,7 @@ fn enforced_answer(
     matcher: &str,
 ) -> Result<String, QueryError>
     ensures ok { IfOk result (λ s. IsEnforcedAnswer limits.now matcher.now query.now (string_bytes s)) }
-    ensures err { IfErr result (FailsToEnforce limits.now query.now matcher.now) }
+    ensures err { IfErr result (λ e. IsEnforcedLine limits.now query.now matcher.now (Err e)) }
 {
     let mut line = enforced_line(alloc, limits, query, matcher)?;
     line.push_str("\n")?;
@@ -87,7 +87,7 @@ fn enforce<R: Read, W: Write, E: Write>(
     errors: &mut Ended<E>,
 ) -> u8
     ensures answers { AnswersQuery R.remaining W.contents (IsEnforcedAnswer limits.now matcher.now) query_error_number
-        (λ e query. FailsToEnforce limits.now query matcher.now e)
+        (λ e query. IsEnforcedLine limits.now query matcher.now (Err e))
         reader.old reader.new writer.old writer.new errors.old errors.new result }
     ensures closed { result ≡ 5 → writer.new.closed ≡ true → errors.new ≡ errors.old }
 {
@@ -120,7 +120,7 @@ pub fn enforce_program<R: Read, W: Write, E: Write>(
 ) -> u8
     ensures obeys { Obeys W.contents E.contents ENFORCE_USAGE.now
         (λ (asked : Text × spans.Limits). AnswersQuery R.remaining W.contents (IsEnforcedAnswer asked.1 asked.0) query_error_number
-        (λ e query. FailsToEnforce asked.1 query asked.0 e)
+        (λ e query. IsEnforcedLine asked.1 query asked.0 (Err e))
         reader.old reader.new writer.old writer.new errors.old errors.new result)
         reader.old reader.new writer.old writer.new errors.old errors.new result
         (enforce_command (map string_bytes args.now)) }

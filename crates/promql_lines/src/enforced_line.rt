@@ -1,8 +1,10 @@
 //! The line of a query with a matcher in its selectors: docs/guide/rewriting.md, "Enforcing".
 
-ghost use Rattle.std.specs.Prelude.{IfErr, IfOk, string_bytes};
+ghost use Rattle.std.specs.Prelude.{Err, IfErr, IfOk, Ok, string_bytes};
 ghost use Rattle.promql_ast.specs.View.{tree_of};
-ghost use Rattle.promql_lines.specs.EnforcedLines.{FailsToEnforce, FailsToShow, IsEnforcedLine, IsEnforcedWithin, IsUnenforced, ShowsEnforced};
+ghost use Rattle.promql_lines.specs.EnforcedLines.{Enforces, IsEnforcedLine};
+ghost use Rattle.promql_lines.specs.LinesWithin.{HasLine};
+ghost use Rattle.promql_lines.specs.QueryErrors.{Then};
 
 use crate::limit_checks::matcher_fault;
 use crate::line_within::line_within;
@@ -20,8 +22,8 @@ pub(crate) fn enforced_within(
     expr: Expr,
     matcher: &str,
 ) -> Result<Expr, QueryError>
-    ensures ok { IfOk result (λ e. IsEnforcedWithin limits.now matcher.now (tree_of expr) (tree_of e)) }
-    ensures err { IfErr result (IsUnenforced limits.now matcher.now (tree_of expr)) }
+    ensures ok { IfOk result (λ e. Enforces limits.now matcher.now (tree_of expr) (Ok (tree_of e))) }
+    ensures err { IfErr result (λ e. Enforces limits.now matcher.now (tree_of expr) (Err e)) }
 {
     if let Some(fault) = matcher_fault(alloc, limits, matcher)? {
         drop_expr(expr);
@@ -43,8 +45,8 @@ fn show_enforced(
     expr: Expr,
     matcher: &str,
 ) -> Result<String, QueryError>
-    ensures ok { IfOk result (λ s. ShowsEnforced limits.now (tree_of expr) matcher.now (string_bytes s)) }
-    ensures err { IfErr result (FailsToShow limits.now matcher.now (tree_of expr)) }
+    ensures ok { IfOk result (λ s. Then (Enforces limits.now matcher.now (tree_of expr)) (HasLine Measured.EnforcedLine limits.now) (Ok (string_bytes s))) }
+    ensures err { IfErr result (λ e. Then (Enforces limits.now matcher.now (tree_of expr)) (HasLine Measured.EnforcedLine limits.now) (Err e)) }
 {
     let enforced = enforced_within(alloc, limits, expr, matcher)?;
     let line = line_within(alloc, limits, Measured::EnforcedLine, &enforced);
@@ -67,8 +69,8 @@ pub fn enforced_line(
     query: &str,
     matcher: &str,
 ) -> Result<String, QueryError>
-    ensures ok { IfOk result (λ s. IsEnforcedLine limits.now query.now matcher.now (string_bytes s)) }
-    ensures err { IfErr result (FailsToEnforce limits.now query.now matcher.now) }
+    ensures ok { IfOk result (λ s. IsEnforcedLine limits.now query.now matcher.now (Ok (string_bytes s))) }
+    ensures err { IfErr result (λ e. IsEnforcedLine limits.now query.now matcher.now (Err e)) }
 {
     let expr = query_tree(alloc, limits, query)?;
     show_enforced(alloc, limits, expr, matcher)

@@ -1,7 +1,7 @@
 //! The layout of a query for people: docs/reference/formatting.md.
 
-ghost use Rattle.std.specs.Prelude.{IfErr, IfOk, string_bytes};
-ghost use Rattle.promql_lines.specs.FormattedQueries.{FailsToFormat, IsFormattedQuery};
+ghost use Rattle.std.specs.Prelude.{Err, IfErr, IfOk, Ok, string_bytes};
+ghost use Rattle.promql_lines.specs.FormattedQueries.{IsFormattedQuery};
 
 use crate::query_error::QueryError;
 use crate::query_tree::query_tree;
@@ -22,8 +22,8 @@ pub fn formatted_query(
     options: &FormatOptions,
     query: &str,
 ) -> Result<String, QueryError>
-    ensures ok { IfOk result (λ s. IsFormattedQuery limits.now options.now.keep_spelling query.now (string_bytes s)) }
-    ensures err { IfErr result (FailsToFormat limits.now query.now) }
+    ensures ok { IfOk result (λ s. IsFormattedQuery limits.now options.now.keep_spelling query.now (Ok (string_bytes s))) }
+    ensures err { IfErr result (λ e. IsFormattedQuery limits.now options.now.keep_spelling query.now (Err e)) }
 {
     let expr = query_tree(alloc, limits, query)?;
     drop_expr(expr);

@@ -1,6 +1,6 @@
 //! The answer to one line of a batch: docs/reference/programs.md, "Answers".
 
-ghost use Rattle.std.specs.Prelude.{◌≡◌, ◌≤◌, Option, Some, Ok, Err, IfOk, IfErr, IfSome, option_map, string_bytes};
+ghost use Rattle.std.specs.Prelude.{◌≡◌, ◌≤◌, Option, Some, None, Ok, Err, IfOk, IfErr, IfSome, option_map, string_bytes};
 ghost use Rattle.std.specs.Str.{IsUtf8};
 ghost use Rattle.serde_json.specs.Data.{depth};
 ghost use Rattle.serde_json.specs.Read.{max_depth, read};
@@ -11,9 +11,10 @@ ghost use Rattle.promql_ast.specs.View.{tree_of};
 ghost use Rattle.promql_syntax.specs.ParseAnswers.{IsAnswerTo};
 ghost use Rattle.promql_syntax.specs.declared.parser.TheConstants.{MAX_DEPTH};
 ghost use Rattle.promql_run.specs.Extensions.{HasNoExtension};
-ghost use Rattle.promql_lines.specs.BatchSteps.{IsAskedAnswer, IsModeAnswer, IsOkLine, IsPlacedAnswer, IsTreeAnswer};
-ghost use Rattle.promql_lines.specs.Batch.{FailsOnQuery, FailsWith, IsAsked, IsAskedPrint, IsErrorText, IsLineAnswer, IsModePrint, IsPlainAnswer, IsQueryAnswer, IsToldRejection, error_object, error_value};
-ghost use Rattle.promql_lines.specs.QueryErrors.{IsPlacedPrint, IsPrintOfTree, query_error_number, rejected_in};
+ghost use Rattle.promql_lines.specs.BatchSteps.{FailsWith, IsAsked, IsAskedAnswer, IsAskedPrint, IsModeAnswer, IsOkLine, IsPlacedAnswer, IsQueryAnswer, IsTreeAnswer, PrintsFormat};
+ghost use Rattle.promql_lines.specs.Batch.{IsErrorText, IsLineAnswer, IsPlainAnswer, PrintsAsked, PrintsQuery, error_value};
+ghost use Rattle.promql_lines.specs.QueryErrors.{Prints, ReadsQuery, query_error_number, rejected_in};
+ghost use Rattle.promql_lines.specs.Telling.{IsToldWith};
 ghost use Rattle.promql_lines.specs.Requests as spec;
 ghost use Rattle.promql_lines.specs.declared.settings.Settings as batches;
 ghost use Rattle.promql_report.specs.Rejecting.{IsRead};
@@ -80,7 +81,7 @@ fn enforced(
 /// The tree of a query. Where it is rejected, the error tells what was expected.
 fn read_tree(alloc: Global, limits: &Limits, query: &str) -> Result<Expr, QueryError>
     ensures ok { IfOk result (λ e. IsRead limits.now query.now (tree_of e)) }
-    ensures err { IfErr result (IsToldRejection limits.now query.now) }
+    ensures err { IfErr result (λ e. ReadsQuery (IsToldWith query.now) limits.now query.now (Err e)) }
 {
     match read_query(alloc, limits, query) {
         Ok(Ok(expr)) => Ok(expr),
@@ -102,7 +103,7 @@ fn answer_tree(
     requires low { height (tree_of expr.now) ≤ MAX_DEPTH }
     requires plain { HasNoExtension (tree_of expr.now) }
     ensures ok { IfOk result (λ s. IsTreeAnswer limits.now format (tree_of expr.now) (string_bytes s)) }
-    ensures err { IfErr result (λ e. IsPrintOfTree limits.now format (tree_of expr.now) (Err e)) }
+    ensures err { IfErr result (λ e. PrintsFormat limits.now format (tree_of expr.now) (Err e)) }
 {
     match shown_text(alloc, format, expr) {
         Ok(Some(text)) => answer_within(alloc, limits, format, text.as_str()),
@@ -142,7 +143,7 @@ fn answer_form(
     ensures ok { IsAnswerTo query.now (Ok (tree_of expr.now)) → IfOk result (λ s.
         IsPlacedAnswer limits.now query.now (tree_of expr.now) (string_bytes s)) }
     ensures err { IsAnswerTo query.now (Ok (tree_of expr.now)) → IfErr result (λ e.
-        IsPlacedPrint limits.now query.now (tree_of expr.now) (Err e)) }
+        Prints limits.now query.now Mode.Placed (tree_of expr.now) (Err e)) }
 {
     match placed_text(alloc, limits, query, expr) {
         Ok(text) => match answer_of_json(alloc, text.as_str()) {
@@ -162,7 +163,7 @@ fn answer_placed(
 ) -> Result<String, QueryError>
     requires { IsAnswerTo query.now (Ok (tree_of expr)) }
     ensures ok { IfOk result (λ s. IsPlacedAnswer limits.now query.now (tree_of expr) (string_bytes s)) }
-    ensures err { IfErr result (λ e. IsPlacedPrint limits.now query.now (tree_of expr) (Err e)) }
+    ensures err { IfErr result (λ e. Prints limits.now query.now Mode.Placed (tree_of expr) (Err e)) }
 {
     let answer = answer_form(alloc, limits, query, &expr);
     drop_expr(expr);
@@ -183,7 +184,7 @@ fn answer_mode(
     requires answer { IsAnswerTo query.now (Ok (tree_of expr)) }
     ensures ok { IfOk result (λ s. IsModeAnswer limits.now query.now (option_map (λ s. s.now) matcher.entry) mode
         (tree_of expr) (string_bytes s)) }
-    ensures err { IfErr result (λ e. IsModePrint limits.now query.now (option_map (λ s. s.now) matcher.entry) mode
+    ensures err { IfErr result (λ e. PrintsAsked limits.now query.now mode (option_map (λ s. s.now) matcher.entry)
         (tree_of expr) (Err e)) }
 {
     match mode {
@@ -203,7 +204,7 @@ fn answer_query(
     ensures ok { IfOk result (λ s.
         IsQueryAnswer limits.now (string_bytes s) query.now (option_map (λ s. s.now) matcher.entry) mode) }
     ensures err { IfErr result (λ e.
-        FailsOnQuery limits.now e query.now (option_map (λ s. s.now) matcher.entry) mode) }
+        PrintsQuery limits.now (query.now, option_map (λ s. s.now) matcher.entry, mode) (Err e)) }
 {
     match read_tree(alloc, limits, query) {
         Ok(expr) => answer_mode(alloc, limits, mode, query, expr, matcher),
@@ -243,7 +244,7 @@ fn answer_value(alloc: Global, settings: &Settings, asked: &Value) -> Result<Str
 
 /// An object of an error's number and its message.
 fn plain_error_value(alloc: Global, code: u8, message: &str) -> Result<Value, AllocError>
-    ensures { IfOk result (λ v. view v ≡ error_object code message.now) }
+    ensures { IfOk result (λ v. view v ≡ error_value code message.now None) }
 {
     json!(in alloc; {"code": code, "error": message})
 }

@@ -1,10 +1,8 @@
 //! The line of a changed tree: docs/guide/rewriting.md, "Faithful texts"; docs/reference/programs.md, "Limits of a query".
 
-ghost use Rattle.std.specs.Prelude.{IfErr, IfOk, string_bytes};
+ghost use Rattle.std.specs.Prelude.{Err, IfErr, IfOk, Ok, string_bytes};
 ghost use Rattle.promql_ast.specs.View.{tree_of};
-ghost use Rattle.promql_rewrite.specs.Faithful.{IsLineOf};
-ghost use Rattle.promql_span.specs.QueryLimits.{IsWithin};
-ghost use Rattle.promql_lines.specs.LinesWithin.{HasNoLine};
+ghost use Rattle.promql_lines.specs.LinesWithin.{HasLine};
 
 use crate::limit_checks::limit_fault;
 use crate::query_error::{Measured, QueryError};
@@ -20,8 +18,8 @@ pub(crate) fn line_within(
     measured: Measured,
     expr: &Expr,
 ) -> Result<String, QueryError>
-    ensures ok { IfOk result (λ s. IsWithin (string_bytes s) limits.now × IsLineOf (tree_of expr.now) (string_bytes s)) }
-    ensures err { IfErr result (HasNoLine measured limits.now (tree_of expr.now)) }
+    ensures ok { IfOk result (λ s. HasLine measured limits.now (tree_of expr.now) (Ok (string_bytes s))) }
+    ensures err { IfErr result (λ e. HasLine measured limits.now (tree_of expr.now) (Err e)) }
 {
     let line = expr.to_string(alloc)?;
     if let Some(fault) = limit_fault(alloc, limits, line.as_str())? {

@@ -4,7 +4,8 @@ ghost use Rattle.std.specs.Prelude.{Ok, string_bytes};
 ghost use Rattle.promql_grammar.specs.Results.{on_result};
 ghost use Rattle.promql_ast.specs.View.{tree_of};
 ghost use Rattle.promql_syntax.specs.ParseAnswers.{IsAnswerTo};
-ghost use Rattle.promql_lines.specs.QueryErrors.{IsPlacedPrint};
+ghost use Rattle.promql_lines.specs.QueryErrors.{Prints};
+ghost use Rattle.promql_lines.specs.declared.mode.Mode.TheVariants.{Placed};
 
 use crate::output::output_within;
 use crate::query_error::QueryError;
@@ -26,7 +27,7 @@ pub fn placed_text(
     expr: &Expr,
 ) -> Result<String, QueryError>
     ensures { IsAnswerTo query.now (Ok (tree_of expr.now))
-        → IsPlacedPrint limits.now query.now (tree_of expr.now) (on_result (λ s. string_bytes s) result) }
+        → Prints limits.now query.now Placed (tree_of expr.now) (on_result (λ s. string_bytes s) result) }
 {
     match placed_json_text(alloc, query, expr) {
         Ok(text) => output_within(limits, text),

@@ -1,9 +1,9 @@
 //! What can go wrong with a query: docs/reference/programs.md, "Numbers of errors".
 
-ghost use Rattle.std.specs.Prelude.{◌≡◌, option_map};
+ghost use Rattle.std.specs.Prelude.{◌≡◌, Err, None, option_map};
 ghost use Rattle.promql_text.specs.Texts.{Text};
 ghost use Rattle.promql_report.specs.Rejecting.{IsRejection};
-ghost use Rattle.promql_lines.specs.QueryErrors.{HasNoTree, query_error_number, rejected_in};
+ghost use Rattle.promql_lines.specs.QueryErrors.{ReadsQuery, query_error_number, rejected_in};
 ghost use Rattle.promql_span.specs.declared.limits.Limits as spans;
 
 use crate::rejected_query::RejectedQuery;
@@ -96,7 +96,8 @@ pub enum QueryError {
 impl QueryError {
     /// The error of a query that is rejected, without what was expected.
     pub fn rejected(rejection: Rejection) -> QueryError
-        ensures { (limits : spans.Limits) (query : Text) → IsRejection limits query rejection → HasNoTree limits query result }
+        ensures { (limits : spans.Limits) (query : Text) → IsRejection limits query rejection
+            → ReadsQuery (λ r. r.expectation ≡ None) limits query (Err result) }
     {
         QueryError::Rejected(RejectedQuery {
             rejection,

@@ -1,12 +1,13 @@
 //! A query that is rejected, with what was expected at a syntax error: docs/reference/programs.md, "Errors".
 
-ghost use Rattle.std.specs.Prelude.{◌≡◌, IfOk, map, string_bytes};
+ghost use Rattle.std.specs.Prelude.{◌≡◌, IfOk, Some, map, string_bytes};
 ghost use Rattle.serde_json.specs.View.{view};
 ghost use Rattle.promql_text.specs.Texts.{Text};
 ghost use Rattle.serde_json.specs.Written.{compact_text};
 ghost use Rattle.promql_report.specs.Rejecting.{IsMessage, reason_number};
-ghost use Rattle.promql_lines.specs.Batch.{rejection_object, texts};
-ghost use Rattle.promql_lines.specs.Telling.{IsToldWith, Tells, TellsAll};
+ghost use Rattle.promql_lines.specs.Batch.{error_value, texts};
+ghost use Rattle.promql_lines.specs.BatchSteps.{TellsAll};
+ghost use Rattle.promql_lines.specs.Telling.{IsToldWith, Tells};
 
 use promql_report::rejection::Rejection;
 use promql_span::unexpected::Unexpected;
@@ -82,7 +83,7 @@ impl RejectedQuery {
     ///
     /// `AllocError` where an allocation failed.
     pub fn value(&self, alloc: Global, code: u8, message: &str) -> Result<Value, AllocError>
-        ensures { IfOk result (λ v. view v ≡ rejection_object code message.now self.now) }
+        ensures { IfOk result (λ v. view v ≡ error_value code message.now (Some self.now)) }
     {
         let Rejection { span, location, .. } = &self.rejection;
         let Some(expectation) = &self.expectation else {
@@ -114,7 +115,7 @@ impl RejectedQuery {
     /// `AllocError` where an allocation failed.
     pub fn text(&self, alloc: Global, message: &str) -> Result<String, AllocError>
         ensures { IfOk result (λ s. string_bytes s
-            ≡ compact_text (rejection_object (reason_number self.now.rejection.reason) message.now self.now)) }
+            ≡ compact_text (error_value (reason_number self.now.rejection.reason) message.now (Some self.now))) }
     {
         let object = self.value(alloc, self.rejection.reason.number(), message)?;
         let text = object.to_string(alloc);

@@ -1,11 +1,10 @@
 //! The line of a query with another name for a metric or a label: docs/guide/rewriting.md, "Renaming".
 
-ghost use Rattle.std.specs.Prelude.{◌≡◌, IfErr, IfOk, None, string_bytes};
+ghost use Rattle.std.specs.Prelude.{Err, IfErr, IfOk, Ok, string_bytes};
 ghost use Rattle.promql_ast.specs.View.{tree_of};
-ghost use Rattle.promql_rewrite.specs.Faithful.{IsLineOf};
-ghost use Rattle.promql_rewrite.specs.Renaming.{renamed};
-ghost use Rattle.promql_span.specs.QueryLimits.{IsWithin};
-ghost use Rattle.promql_lines.specs.RenamedLines.{FailsToRename, FailsToShowRenamed, IsRenamedLine, rename_fault, renaming};
+ghost use Rattle.promql_lines.specs.RenamedLines.{IsRenamedLine, Renames, renaming};
+ghost use Rattle.promql_lines.specs.LinesWithin.{HasLine};
+ghost use Rattle.promql_lines.specs.QueryErrors.{Then};
 
 use crate::line_within::line_within;
 use crate::query_error::{Measured, QueryError};
@@ -27,15 +26,13 @@ pub enum Named {
 /// The expression with the new name.
 fn renamed_tree(
     alloc: Global,
-    limits: &Limits,
     expr: Expr,
     named: Named,
     from: &str,
     to: &str,
 ) -> Result<Expr, QueryError>
-    ensures ok { IfOk result (λ e. (rename_fault (renaming named from.now to.now) (tree_of expr) ≡ None)
-        × (tree_of e ≡ renamed (renaming named from.now to.now) (tree_of expr))) }
-    ensures err { IfErr result (FailsToRename limits.now (renaming named from.now to.now) (tree_of expr)) }
+    ensures ok { IfOk result (λ e. Renames (renaming named from.now to.now) (tree_of expr) (Ok (tree_of e))) }
+    ensures err { IfErr result (λ e. Renames (renaming named from.now to.now) (tree_of expr) (Err e)) }
 {
     match named {
         Named::Metric => match rename_metric(alloc, expr, from, to) {
@@ -61,11 +58,12 @@ fn show_renamed(
     from: &str,
     to: &str,
 ) -> Result<String, QueryError>
-    ensures ok { IfOk result (λ s. (rename_fault (renaming named from.now to.now) (tree_of expr) ≡ None) × IsWithin (string_bytes s) limits.now
-        × IsLineOf (renamed (renaming named from.now to.now) (tree_of expr)) (string_bytes s)) }
-    ensures err { IfErr result (FailsToRename limits.now (renaming named from.now to.now) (tree_of expr)) }
+    ensures ok { IfOk result (λ s. Then (Renames (renaming named from.now to.now) (tree_of expr))
+        (HasLine Measured.RenamedLine limits.now) (Ok (string_bytes s))) }
+    ensures err { IfErr result (λ e. Then (Renames (renaming named from.now to.now) (tree_of expr))
+        (HasLine Measured.RenamedLine limits.now) (Err e)) }
 {
-    let renamed = renamed_tree(alloc, limits, expr, named, from, to)?;
+    let renamed = renamed_tree(alloc, expr, named, from, to)?;
     let line = line_within(alloc, limits, Measured::RenamedLine, &renamed);
     drop_expr(renamed);
     line
@@ -88,8 +86,8 @@ pub fn renamed_line(
     from: &str,
     to: &str,
 ) -> Result<String, QueryError>
-    ensures ok { IfOk result (λ s. IsRenamedLine limits.now query.now (renaming named from.now to.now) (string_bytes s)) }
-    ensures err { IfErr result (FailsToShowRenamed limits.now query.now (renaming named from.now to.now)) }
+    ensures ok { IfOk result (λ s. IsRenamedLine limits.now query.now (renaming named from.now to.now) (Ok (string_bytes s))) }
+    ensures err { IfErr result (λ e. IsRenamedLine limits.now query.now (renaming named from.now to.now) (Err e)) }
 {
     let expr = query_tree(alloc, limits, query)?;
     show_renamed(alloc, limits, expr, named, from, to)

@@ -1,10 +1,11 @@
 //! What a line of a batch asks for: docs/reference/programs.md, "Requests".
 
-ghost use Rattle.std.specs.Prelude.{◌≡◌, None, Some, codes, false, is_none, map, option_map, string_bytes};
-ghost use Rattle.serde_json.specs.Find.{as_bool, get};
+ghost use Rattle.std.specs.Prelude.{◌≡◌, None, Some, codes, false, true, is_none, is_some, map, option_map, string_bytes};
+ghost use Rattle.serde_json.specs.Find.{as_bool, as_str, get};
 ghost use Rattle.serde_json.specs.View.{view};
 ghost use Rattle.std.specs.BTreeMap.{keys};
 ghost use Rattle.std.specs.Option.{option_map_or};
+ghost use Rattle.promql_lines.specs.BatchSteps.{first_unknown};
 ghost use Rattle.promql_lines.specs.Requests as spec;
 
 use crate::mode::Mode;
@@ -43,7 +44,7 @@ fn places_in(value: &Value) -> Option<bool>
 
 /// Whether a member is a text, if it is there.
 fn is_text(member: Option<&Value>) -> bool
-    ensures { result ≡ spec.is_text (option_map (λ v. view v.now) member.entry) }
+    ensures { result ≡ option_map_or (λ v. is_some (as_str v)) (option_map (λ v. view v.now) member.entry) true }
 {
     match member {
         Some(value) => value.as_str().is_some(),
@@ -102,7 +103,7 @@ fn is_member_name(key: &str) -> bool
 
 /// The first member that no request has, by the order of the names.
 fn unknown_name(members: &Map<String, Value>) -> Option<&str>
-    ensures { option_map (λ s. s.now) result ≡ spec.unknown_name (map string_bytes (keys members.now)) }
+    ensures { option_map (λ s. s.now) result ≡ first_unknown (map string_bytes (keys members.now)) }
 {
     for key in members.keys() {
         if !is_member_name(key.as_str()) {

@@ -6,7 +6,8 @@ ghost use Rattle.serde_json.specs.Find.{get};
 ghost use Rattle.serde_json.specs.Read.{max_depth};
 ghost use Rattle.serde_json.specs.View.{view};
 ghost use Rattle.promql_text.specs.Texts.{Text};
-ghost use Rattle.promql_lines.specs.Batch.{HasId, id_before};
+ghost use Rattle.promql_lines.specs.Batch.{HasId};
+ghost use Rattle.promql_lines.specs.BatchSteps.{id_before};
 
 use serde_json::Value;
 use std::alloc::{AllocError, Global};

@@ -1,9 +1,11 @@
 //! The text of a tree that is given as JSON: docs/reference/json.md, "From JSON to a text".
 
-ghost use Rattle.std.specs.Prelude.{◌≡◌, IfErr, IfOk, string_bytes};
-ghost use Rattle.promql_ast.specs.Text.{text as line_text};
+ghost use Rattle.std.specs.Prelude.{◌≡◌, Err, IfErr, IfOk, Ok, if◌then◌else◌, string_bytes};
 ghost use Rattle.promql_ast.specs.View.{tree_of};
-ghost use Rattle.promql_lines.specs.TreeTexts.{FailsToShowForm, FailsToShowTree, IsFormTree, IsFormatOf, IsLineWithin, IsNoTreeForm, IsTextOfForm, IsTextOfTree, has_parens};
+ghost use Rattle.promql_lines.specs.TreeTexts.{HasLineWithin, PrintsForm, PrintsTree, ReadsForm};
+ghost use Rattle.promql_lines.specs.BatchSteps.{IsFormatOf, IsLineWithin};
+ghost use Rattle.promql_rewrite.specs.Parenthesizing as spec;
+ghost use Rattle.promql_run.specs.declared.format.Format as formats;
 ghost use Rattle.promql_span.specs.declared.limits.Limits as spans;
 
 use crate::limit_checks::limit_fault;
@@ -17,8 +19,8 @@ use std::alloc::Global;
 
 /// The tree whose form a text is.
 fn read_form(alloc: Global, form: &str) -> Result<Expr, QueryError>
-    ensures ok { IfOk result (λ e. IsFormTree form.now (tree_of e)) }
-    ensures err { IfErr result (IsNoTreeForm form.now) }
+    ensures ok { IfOk result (λ e. ReadsForm form.now (Ok (tree_of e))) }
+    ensures err { IfErr result (λ e. ReadsForm form.now (Err e)) }
 {
     match from_json_text(alloc, form) {
         Ok(expr) => Ok(expr),
@@ -32,7 +34,7 @@ fn read_form(alloc: Global, form: &str) -> Result<Expr, QueryError>
 
 /// The same tree, or with parentheses where it needs them.
 fn with_parens(alloc: Global, expr: Expr, parens: bool) -> Result<Expr, QueryError>
-    ensures ok { IfOk result (λ e. tree_of e ≡ has_parens parens (tree_of expr)) }
+    ensures ok { IfOk result (λ e. tree_of e ≡ (if parens then spec.parenthesized (tree_of expr) else tree_of expr)) }
     ensures err { IfErr result (λ e. e ≡ QueryError.Memory) }
 {
     if parens {
@@ -46,7 +48,7 @@ fn with_parens(alloc: Global, expr: Expr, parens: bool) -> Result<Expr, QueryErr
 #[tactic(auto, using(crate::proofs::TreeMeans::line_means))]
 fn line_of_tree(alloc: Global, limits: &Limits, expr: &Expr) -> Result<String, QueryError>
     ensures ok { IfOk result (λ s. IsLineWithin limits.now (tree_of expr.now) (string_bytes s)) }
-    ensures err { IfErr result (FailsToShowTree limits.now (tree_of expr.now)) }
+    ensures err { (format : formats.Format) → IfErr result (λ e. PrintsTree limits.now format (tree_of expr.now) (Err e)) }
 {
     let line = expr.to_string(alloc)?;
     if let Some(fault) = limit_fault(alloc, limits, line.as_str())? {
@@ -66,8 +68,8 @@ fn layout_of_tree(
     expr: &Expr,
 ) -> Result<String, QueryError>
     ensures ok { IfOk result (λ s. IsFormatOf (Format.Pretty (record { level = level; width = width })) (tree_of expr.now) (string_bytes s)) }
-    ensures err { (limits : spans.Limits) → IsLineWithin limits (tree_of expr.now) (line_text (tree_of expr.now))
-        → IfErr result (FailsToShowTree limits (tree_of expr.now)) }
+    ensures err { (limits : spans.Limits) (format : formats.Format) → HasLineWithin limits (tree_of expr.now)
+        → IfErr result (λ e. PrintsTree limits format (tree_of expr.now) (Err e)) }
 {
     match faithful_pretty(alloc, expr, level as usize, width) {
         Ok(text) => Ok(text),
@@ -79,8 +81,8 @@ fn layout_of_tree(
 /// The form of a tree that has a line.
 fn form_of_tree(alloc: Global, expr: &Expr) -> Result<String, QueryError>
     ensures ok { IfOk result (λ s. IsFormatOf Format.Json (tree_of expr.now) (string_bytes s)) }
-    ensures err { (limits : spans.Limits) → IsLineWithin limits (tree_of expr.now) (line_text (tree_of expr.now))
-        → IfErr result (FailsToShowTree limits (tree_of expr.now)) }
+    ensures err { (limits : spans.Limits) (format : formats.Format) → HasLineWithin limits (tree_of expr.now)
+        → IfErr result (λ e. PrintsTree limits format (tree_of expr.now) (Err e)) }
 {
     match json_text(alloc, expr) {
         Ok(text) => Ok(text),
@@ -97,8 +99,8 @@ fn show_tree(
     format: Format,
     expr: &Expr,
 ) -> Result<String, QueryError>
-    ensures ok { IfOk result (λ s. IsTextOfTree limits.now format (tree_of expr.now) (string_bytes s)) }
-    ensures err { IfErr result (FailsToShowTree limits.now (tree_of expr.now)) }
+    ensures ok { IfOk result (λ s. PrintsTree limits.now format (tree_of expr.now) (Ok (string_bytes s))) }
+    ensures err { IfErr result (λ e. PrintsTree limits.now format (tree_of expr.now) (Err e)) }
 {
     let line = line_of_tree(alloc, limits, expr)?;
     match format {
@@ -123,8 +125,8 @@ pub fn tree_text(
     parens: bool,
     form: &str,
 ) -> Result<String, QueryError>
-    ensures ok { IfOk result (λ s. IsTextOfForm limits.now format parens form.now (string_bytes s)) }
-    ensures err { IfErr result (FailsToShowForm limits.now parens form.now) }
+    ensures ok { IfOk result (λ s. PrintsForm limits.now format parens form.now (Ok (string_bytes s))) }
+    ensures err { IfErr result (λ e. PrintsForm limits.now format parens form.now (Err e)) }
 {
     let expr = with_parens(alloc, read_form(alloc, form)?, parens)?;
     let text = show_tree(alloc, limits, format, &expr);

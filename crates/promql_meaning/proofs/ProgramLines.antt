@@ -10,13 +10,13 @@ use Rattle.promql_json.specs.declared.error.JsonError.{JsonError}
 use Rattle.promql_span.specs.declared.limits.Limits.{Limits}
 use Rattle.promql_lines.specs.EnforcedLines.{IsEnforcedLine}
 
-pub line_is_enforced : (limits : Limits) (query matcher line : Text) → IsEnforcedLine limits query matcher line → (c : PlainMatcher) × IsMatcherText matcher (Ok c) × IsEnforced query c line
+pub line_is_enforced : (limits : Limits) (query matcher line : Text) → IsEnforcedLine limits query matcher (Ok line) → (c : PlainMatcher) × IsMatcherText matcher (Ok c) × IsEnforced query c line
 line_is_enforced limits query matcher line h =
     let shown = h.2 in
     let by = shown.1.1 in (
       by.0,
       by.1,
-      (h.0, h.1.1, by.2, (subst (λ u. line ≡ text u) by.3 shown.3.0, subst (Means line) by.3 shown.3.1)),
+      (h.0, h.1.1, by.2, (subst (λ u. line ≡ text u) by.3 shown.2.1.0, subst (Means line) by.3 shown.2.1.1)),
     )
 
 abbrev body_of : Result Text JsonError → Text

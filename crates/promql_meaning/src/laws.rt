@@ -102,7 +102,7 @@ pub fn programs_keep_what_is_meant()
     ensures pretty { (g : Text → Answer) (query printed : Text) (p : IsPrinted (Pretty (record { level = 0; width = 100 })) query printed)
         → HasTree g query p.1.0 → (body : Text) × (printed ≡ body ++ 10 ∷ [])
         × ((u : Tree) × HasTree g body u × ((s : Store) → seen s u ≡ seen s p.1.0)) }
-    ensures enforce { (limits : Limits) (query matcher line : Text) → IsEnforcedLine limits query matcher line
+    ensures enforce { (limits : Limits) (query matcher line : Text) → IsEnforcedLine limits query matcher (Ok line)
         → (c : PlainMatcher) × IsMatcherText matcher (Ok c) × IsEnforced query c line }
 {
     promql_syntax::laws::laid_reads_back();

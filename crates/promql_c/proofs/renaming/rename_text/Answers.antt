@@ -1,6 +1,6 @@
 use Rattle.std.proofs.Common.{inl}
-use Rattle.promql_lines.specs.RenamedLines.{FailsToShowRenamed, IsRenamedLine, renaming}
-use Rattle.promql_c.proofs.MadeTexts.{matched}
+use Rattle.promql_lines.specs.RenamedLines.{IsRenamedLine, renaming}
+use Rattle.promql_c.proofs.MadeTexts.{made}
 use Rattle.promql_c.proofs.renaming.rename_text.Goals as goal
 
 pub returns : goal.returns
@@ -8,6 +8,5 @@ returns c =
     let r = renaming c.args.named c.args.from.now c.args.to.now in
     inl (
       (c.utf8.query, c.utf8.from, c.utf8.to),
-      matched (IsRenamedLine c.args.limits.now c.args.query.now r) (FailsToShowRenamed c.args.limits.now c.args.query.now r)
-          c.renamed_line.result c.renamed_line.ensures.ok c.renamed_line.ensures.err,
+      made (IsRenamedLine c.args.limits.now c.args.query.now r) c.renamed_line.result c.renamed_line.ensures.ok c.renamed_line.ensures.err,
     )

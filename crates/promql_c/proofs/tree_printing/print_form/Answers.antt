@@ -1,10 +1,12 @@
 use Rattle.std.proofs.Common.{inl, string_bytes, subst, sym}
 use Rattle.promql_grammar.specs.Results.{on_result}
-use Rattle.promql_c.specs.Calls.{IsTreePrintOf, PrintsForm}
+use Rattle.promql_lines.specs.QueryErrors.{IsOutput, Then}
+use Rattle.promql_lines.specs.TreeTexts.{PrintsForm}
+use Rattle.promql_c.specs.Calls.{IsTreePrintOf}
 use Rattle.promql_c.proofs.tree_printing.print_form.Goals as goal
 
 pub returns : goal.returns
 returns c =
     let limits = c.args.limits.now in let parens = c.args.parens in let made = on_result (λ s. string_bytes s) c.print_text.result in
-    subst (λ asked. IsTreePrintOf limits c.args.form.now asked parens made) (sym c.in-Some.is)
-    (inl (c.in-Ok.ensures.cases.1, subst (λ form. PrintsForm limits form parens c.in-Some.format made) c.in-Ok.ensures.cases.0 c.print_text.ensures))
+    subst (λ asked. IsTreePrintOf limits c.args.form.now parens asked made) (sym c.in-Some.is)
+    (inl (c.in-Ok.ensures.cases.1, subst (λ form. Then (PrintsForm limits c.in-Some.format parens form) (IsOutput limits) made) c.in-Ok.ensures.cases.0 c.print_text.ensures))

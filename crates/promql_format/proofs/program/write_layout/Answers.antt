@@ -1,6 +1,7 @@
 use Rattle.std.proofs.Common.{◌∙◌, ⊎_elim, inl, inr, refl, subst, sym}
+use Rattle.std.specs.Prelude.{Err, Ok}
 use Rattle.promql_io.specs.Inputs.{HasRead}
-use Rattle.promql_format.specs.Layouts.{HasNoLayout, IsFormatAnswer}
+use Rattle.promql_format.specs.Layouts.{IsFormatAnswer}
 use Rattle.promql_format.proofs.LayoutFailures.{never_not_utf8}
 use Rattle.promql_lines.proofs.QueryStatuses.{not_status, not_written, three_is_not_utf8}
 use Rattle.promql_format.proofs.program.write_layout.Goals as goal
@@ -13,7 +14,7 @@ returns-in-Ok-query_layout-clause-answers g c =
     let text = c.as_str.result.now in
     let read = subst (HasRead (g.R.Read.remaining c.args.reader.now.inner) (g.R.Read.remaining c.read_text.new.reader.inner)) (sym c.as_str.ensures.value) c.in-Ok.ensures.read in
     let answer = c.as_str-in-Ok-query_layout.result.now in
-    let is = subst (IsFormatAnswer c.args.settings.now text) (sym c.as_str-in-Ok-query_layout.ensures.value) c.in-Ok-query_layout.ensures.ok in
+    let is = subst (λ answer. IsFormatAnswer c.args.settings.now text (Ok answer)) (sym c.as_str-in-Ok-query_layout.ensures.value) c.in-Ok-query_layout.ensures.ok in
     record {
       reads = record {
         failed = λ two. absurd (not_written status 2 refl known two);
@@ -41,7 +42,7 @@ returns-clause-answers g c =
         failed = λ two. absurd (not_status e 2 refl (sym number ∙ two));
         quiet = λ other. c.in-Ok.ensures.quiet;
         not_utf8 = λ three. absurd (never_not_utf8 c.args.settings.now text
-            (subst (HasNoLayout c.args.settings.now text) (three_is_not_utf8 e (sym number ∙ three)) fails));
+            (subst (λ e. IsFormatAnswer c.args.settings.now text (Err e)) (three_is_not_utf8 e (sym number ∙ three)) fails));
       };
       ok = λ zero. absurd (not_status e 0 refl (sym number ∙ zero));
       flushed = λ zero. absurd (not_status e 0 refl (sym number ∙ zero));

@@ -1,6 +1,7 @@
 use Rattle.std.proofs.Common.{◌∙◌, ⊎_elim, inl, inr, refl, subst, sym}
+use Rattle.std.specs.Prelude.{Err}
 use Rattle.promql_io.specs.Inputs.{HasRead}
-use Rattle.promql_lines.specs.EnforcedLines.{FailsToEnforce, IsEnforcedAnswer}
+use Rattle.promql_lines.specs.EnforcedLines.{IsEnforcedAnswer, IsEnforcedLine}
 use Rattle.promql_lines.proofs.EnforceFailures.{never_not_utf8}
 use Rattle.promql_lines.proofs.QueryStatuses.{not_status, not_written, three_is_not_utf8}
 use Rattle.promql_lines.proofs.enforce_program.enforce.Goals as goal
@@ -41,7 +42,7 @@ returns-clause-answers g c =
         failed = λ two. absurd (not_status e 2 refl (sym number ∙ two));
         quiet = λ other. c.in-Ok.ensures.quiet;
         not_utf8 = λ three. absurd (never_not_utf8 c.args.limits.now text c.args.matcher.now
-            (subst (FailsToEnforce c.args.limits.now text c.args.matcher.now) (three_is_not_utf8 e (sym number ∙ three)) fails));
+            (subst (λ e. IsEnforcedLine c.args.limits.now text c.args.matcher.now (Err e)) (three_is_not_utf8 e (sym number ∙ three)) fails));
       };
       ok = λ zero. absurd (not_status e 0 refl (sym number ∙ zero));
       flushed = λ zero. absurd (not_status e 0 refl (sym number ∙ zero));

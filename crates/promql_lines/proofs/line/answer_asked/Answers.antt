@@ -1,10 +1,10 @@
-use Rattle.std.proofs.Common.{inl, option_map, refl, subst, sym}
+use Rattle.std.proofs.Common.{inl, option_map, subst, sym}
 use Rattle.std.proofs.lemmas.Result.{err_from_is_err_and}
 use Rattle.std.specs.Prelude.{Err, IfErr}
 use Rattle.promql_ast.specs.View.{tree_of}
 use Rattle.promql_lines.proofs.EnforcedTrees.{asked_low, asked_plain}
 use Rattle.promql_lines.proofs.LineAnswers.{asked_answers, asked_fails}
-use Rattle.promql_lines.specs.Batch.{IsAskedPrint}
+use Rattle.promql_lines.specs.BatchSteps.{IsAskedPrint}
 use Rattle.promql_lines.proofs.line.answer_asked.Goals as goal
 
 pub returns-in_err-expr-clause-err : goal.returns-in_err-expr-clause-err
@@ -13,7 +13,7 @@ returns-in_err-expr-clause-err c =
     let same = err_from_is_err_and c.from_residual.result c.from_residual.ensures.1 in
     subst (λ r. IfErr r (λ e. IsAskedPrint limits matcher format t (Err e))) (sym same.1)
     (subst (λ e. IsAskedPrint limits matcher format t (Err e)) (sym same.2)
-    (inl (c.in_err-expr.field-0.0, c.in_err-expr.ensures.err, refl)))
+    (inl c.in_err-expr.ensures.err))
 
 pub answer_tree-answer-requires-clause-low : goal.answer_tree-answer-requires-clause-low
 answer_tree-answer-requires-clause-low c =

@@ -1,7 +1,8 @@
 use Rattle.std.proofs.Common.{Some, ap, map, string_bytes, sym, ◌∙◌}
 use Rattle.std.proofs.lemmas.Map.Iter.{rest_all, rest_more}
 use Rattle.std.specs.Map.Iter.{deref}
-use Rattle.promql_lines.specs.Requests.{is_member_name, unknown_name}
+use Rattle.promql_lines.specs.BatchSteps.{first_unknown}
+use Rattle.promql_lines.specs.Requests.{is_member_name}
 use Rattle.promql_lines.proofs.RequestMembers.{known_first, unknown_first}
 use Rattle.promql_lines.proofs.request.unknown_name.Goals as goal
 
@@ -20,4 +21,4 @@ loop-key-preserved c =
 pub returns : goal.returns
 returns c =
     let rest = rest_all deref _ _ c.next.result c.in-None.is c.next.ensures.steps in
-    sym (ap (λ keys. unknown_name (map string_bytes keys)) rest) ∙ c.loop-key.invariant
+    sym (ap (λ keys. first_unknown (map string_bytes keys)) rest) ∙ c.loop-key.invariant

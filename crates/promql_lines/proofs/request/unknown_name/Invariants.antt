@@ -1,8 +1,8 @@
 use Rattle.std.proofs.Common.{◌≡◌, string_bytes, map}
 use Rattle.std.specs.BTreeMap.{keys}
-use Rattle.promql_lines.specs.Requests as spec
+use Rattle.promql_lines.specs.BatchSteps.{first_unknown}
 use Rattle.promql_lines.proofs.request.unknown_name.Given as goal
 
 -- what is found is among the keys that are left
 abbrev pub invariant-loop-key : goal.invariant-loop-key
-invariant-loop-key l = spec.unknown_name (map string_bytes l.key-iterator) ≡ spec.unknown_name (map string_bytes (keys l.members))
+invariant-loop-key l = first_unknown (map string_bytes l.key-iterator) ≡ first_unknown (map string_bytes (keys l.members))

@@ -1,6 +1,6 @@
 use Rattle.std.proofs.Common.{Some, subst, ◌∙◌}
 use Rattle.std.proofs.lemmas.Result.{IfOk-weaker}
-use Rattle.promql_lines.specs.Telling.{TellsAll}
+use Rattle.promql_lines.specs.BatchSteps.{TellsAll}
 use Rattle.promql_lines.proofs.rejected_query.RejectedQuery.message.Goals as goal
 
 pub returns-in-Some : goal.returns-in-Some

@@ -1,8 +1,8 @@
-use Rattle.std.proofs.Common.{ap, ◌∙◌}
+use Rattle.std.proofs.Common.{Some, ap, ◌∙◌}
 use Rattle.std.proofs.lemmas.Result.{IfOk-weaker}
 use Rattle.serde_json.specs.View.{view}
 use Rattle.serde_json.specs.Written.{compact_text}
-use Rattle.promql_lines.specs.Batch.{rejection_object}
+use Rattle.promql_lines.specs.Batch.{error_value}
 use Rattle.promql_lines.proofs.LineAnswers.{rejection_is_finite}
 use Rattle.promql_lines.proofs.rejected_query.RejectedQuery.text.Goals as goal
 
@@ -14,5 +14,5 @@ returns c =
     (λ s text.
     text (rejection_is_finite (view c.in_ok-object.object) query c.number.result message c.in_ok-object.ensures)
     ∙ ap compact_text c.in_ok-object.ensures
-    ∙ ap (λ code. compact_text (rejection_object code message query)) c.number.ensures)
+    ∙ ap (λ code. compact_text (error_value code message (Some query))) c.number.ensures)
     c.to_string-text.ensures.text
