@@ -13,7 +13,7 @@ use Rattle.promql_rewrite.specs.MappedSelectors.{arg_selectors, kind_after, para
 use Rattle.promql_rewrite.specs.declared.mapping.SelectorKind.{SelectorKind}
 use Rattle.promql_rewrite.specs.declared.mapping.SelectorKind.TheVariants.{Series}
 use Rattle.promql_meaning.specs.Stores.{Store}
-use Rattle.promql_meaning.specs.Seen.{Seen, Seens, joined, aggregated, negated, operated, stepped, constant, text, instants, ranges, called, extended, none_seen, first_seen, seen, maybe_seen, all_seen, is_absent, nothing, sees_beside, has_call_that_sees_beside}
+use Rattle.promql_meaning.specs.Seen.{Seen, Seens, joined, aggregated, negated, operated, stepped, literal, instants, ranges, called, extended, none_seen, first_seen, seen, maybe_seen, all_seen, is_absent, nothing, sees_beside, has_call_that_sees_beside}
 use Rattle.promql_meaning.proofs.SeenClauses.{instants_of, ranges_of, grouped}
 use Rattle.promql_rewrite.proofs.mapped.KindedSelectors.{selectors_are}
 use Rattle.promql_meaning.proofs.NoNodes.{neither, none_apart}
@@ -63,8 +63,8 @@ abbrev mutual
   see (binary op l r m) vs = let a = see l vs in let b = see r a.1 in (operated op a.0 b.0 (joined m), b.1)
   see (paren e) vs = see e vs
   see (subquery e offset at range step) vs = let a = see e vs in (stepped a.0 offset at range step, a.1)
-  see (number n) vs = (constant n, vs)
-  see (string s) vs = (text s, vs)
+  see (number n) vs = (literal (number n), vs)
+  see (string s) vs = (literal (string s), vs)
   see (vector s) [] = (text [], [])
   see (vector s) (v ∷ vs) = (v, vs)
   see (matrix s range mode) [] = (text [], [])

@@ -3,7 +3,7 @@ use Rattle.std.specs.Prelude.{map}
 use Rattle.promql_text.specs.Texts.{Text}
 use Rattle.promql_rewrite.specs.Renaming.{Renaming, renamed_clause, renamed_matching, replaced}
 use Rattle.promql_meaning.specs.Stores.{Store}
-use Rattle.promql_meaning.specs.Seen.{Seen, aggregated, negated, operated, stepped, constant, text, instants, ranges, called, extended, Seens, none_seen, first_seen}
+use Rattle.promql_meaning.specs.Seen.{Seen, aggregated, negated, operated, stepped, literal, instants, ranges, called, extended, Seens, none_seen, first_seen}
 
 -- the store in which each series has under the old name what it has under the new one
 abbrev pub under_old_name : Text → Text → Store → Store
@@ -17,8 +17,7 @@ module _ (series : Store → Store) (r : Renaming) where
     relabeled (negated e) = negated (relabeled e)
     relabeled (operated op x y j) = operated op (relabeled x) (relabeled y) (renamed_matching r j)
     relabeled (stepped e offset at range step) = stepped (relabeled e) offset at range step
-    relabeled (constant n) = constant n
-    relabeled (text s) = text s
+    relabeled (literal t) = literal t
     relabeled (instants xs offset at) = instants (series xs) offset at
     relabeled (ranges xs offset at range mode) = ranges (series xs) offset at range mode
     relabeled (called f b es) = called f b (all_relabeled es)

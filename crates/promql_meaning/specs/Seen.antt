@@ -4,7 +4,6 @@ use Rattle.std.specs.List.{list_any}
 use Rattle.std.specs.Option.{option_map_or, unwrap_or}
 use Rattle.std.specs.Str.{bytes_eq}
 use Rattle.promql_text.specs.Texts.{Text}
-use Rattle.promql_text.specs.declared.number.Number.{Number}
 use Rattle.promql_label.specs.PlainMatchers.{PlainMatchers}
 use Rattle.promql_kind.specs.Functions.{Signature, name_of}
 use Rattle.promql_kind.specs.Modifiers.{Clause, Matching, including, excluding, one_to_one, fills, matching}
@@ -13,7 +12,7 @@ use Rattle.promql_ast.specs.Arguments.{first_of}
 use Rattle.promql_ast.specs.Normal.{normal_matchers}
 use Rattle.promql_ast.specs.Selectors.{selector}
 use Rattle.promql_ast.specs.Shifts.{Shift, Moment}
-use Rattle.promql_ast.specs.Tree.{Tree, aggregate, unary, binary, paren, subquery, number, string, vector, matrix, call, extension, MaybeTree, absent, present, Trees, no_trees, first_tree}
+use Rattle.promql_ast.specs.Tree.{Tree, aggregate, unary, binary, paren, subquery, vector, matrix, call, extension, MaybeTree, absent, present, Trees, no_trees, first_tree}
 use Rattle.promql_ast.specs.declared.range_mode.RangeMode.{RangeMode}
 use Rattle.promql_rewrite.specs.Collecting.{nodes_of}
 use Rattle.promql_rewrite.specs.Enforcing.{is_info}
@@ -71,8 +70,7 @@ mutual
     negated : Seen → Seen
     operated : ℕ → Seen → Seen → Matching → Seen
     stepped : Seen → Option Shift → Option Moment → ℕ → Option ℕ → Seen
-    constant : Number → Seen
-    text : Text → Seen
+    literal : Tree → Seen
     instants : Store → Option Shift → Option Moment → Seen
     ranges : Store → Option Shift → Option Moment → ℕ → RangeMode → Seen
     called : Signature → Beside → Seens → Seen
@@ -91,12 +89,11 @@ abbrev mutual
   seen store (binary op l r m) = operated op (seen store l) (seen store r) (joined m)
   seen store (paren e) = seen store e
   seen store (subquery e offset at range step) = stepped (seen store e) offset at range step
-  seen store (number n) = constant n
-  seen store (string s) = text s
   seen store (vector (selector name cs offset at)) = instants (read (selector name cs offset at) store) offset at
   seen store (matrix (selector name cs offset at) range mode) = ranges (read (selector name cs offset at) store) offset at range mode
   seen store (call f args) = called f (beside store f args) (all_seen store args)
   seen store (extension name gives es) = extended name gives (all_seen store es)
+  seen store t = literal t
 
   pub maybe_seen : Store → MaybeTree → Seens
   maybe_seen store absent = none_seen

@@ -8,7 +8,8 @@ use Rattle.promql_grammar.specs.Grammar.{Derivation, IsWellFormed, yield}
 use Rattle.promql_grammar.specs.Results.{on_result}
 use Rattle.promql_grammar.specs.Symbols.{Symbol, symbol_of}
 use Rattle.promql_grammar.specs.SourceTokens.{Token, tokens}
-use Rattle.promql_span.specs.PlacedTokens.{TokensArePlaced, placed_tokens}
+use Rattle.promql_span.specs.PlacedTokens.{placed_tokens}
+use Rattle.promql_span.specs.TokensPlaced.{TokensArePlaced}
 use Rattle.promql_syntax.specs.Asking.{EndsIn}
 use Rattle.promql_syntax.specs.Building.{build}
 use Rattle.promql_syntax.specs.ParseAnswers.{Derives, IsAnswerTo, memory}

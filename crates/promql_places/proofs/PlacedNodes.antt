@@ -14,7 +14,8 @@ use Rattle.promql_grammar.specs.Symbols.{is_punct, punct, word, symbol, symbol_o
 use Rattle.promql_grammar.specs.declared.token_kinds.TokenKind.{TokenKind}
 use Rattle.promql_syntax.specs.FaultTokens.{Subexpression}
 use Rattle.promql_syntax.specs.ParseAnswers.{Derives}
-use Rattle.promql_span.specs.PlacedTokens.{TokensArePlaced, last_tokens, placed_tokens, span_of}
+use Rattle.promql_span.specs.PlacedTokens.{last_tokens, placed_tokens, span_of}
+use Rattle.promql_span.specs.TokensPlaced.{TokensArePlaced}
 use Rattle.promql_span.specs.SpanSteps.{last_of}
 use Rattle.promql_span.specs.TokenSpans.{span_over}
 use Rattle.promql_span.proofs.Covered.{over_is}

@@ -1,10 +1,7 @@
--- What a check found, and what a query is read as. Private: nothing rests on believing it.
-use Rattle.std.specs.Prelude.{◌≡◌, ◌⊎◌, ◌++◌, Bool, MatchResult, Result, encode_utf8_all, string_bytes}
+-- What a check found. Private: nothing rests on believing it.
+use Rattle.std.specs.Prelude.{◌≡◌, ◌⊎◌, ◌++◌, Bool, encode_utf8_all, string_bytes}
 use Rattle.std.specs.Str.{chars}
-use Rattle.promql_ast.specs.View.{tree_of}
-use Rattle.promql_ast.specs.declared.expr.Expr.{Expr}
-use Rattle.promql_span.specs.declared.limits.Limits.{Limits}
-use Rattle.promql_report.specs.Rejecting.{IsMessage, IsRead, IsRejection}
+use Rattle.promql_report.specs.Rejecting.{IsMessage}
 use Rattle.promql_report.specs.declared.rejection.Rejection.{Rejection}
 use Rattle.promql_text.specs.Texts.{Text}
 use Rattle.promql_report.specs.Checking.{IsQueryIn, IsReported, IsSilent, IsWarned, report_text}
@@ -35,7 +32,3 @@ abbrev pub IsReport : Bool → Text → Rejection → Text → Type 0
 IsReport colors query r report =
     (message : Text) × (said : Text) × IsMessage query r message × ((said ≡ message) ⊎ (said ≡ message ++ BYTE_ORDER_MARK.now))
     × (report ≡ report_text colors query r.location r.span (encode_utf8_all (visible (chars said))))
-
--- the query is read as this tree, or is rejected so
-abbrev pub IsReadAs : Limits → Text → Result Expr Rejection → Type 0
-IsReadAs limits query r = MatchResult r (λ e. IsRead limits query (tree_of e)) (IsRejection limits query)

@@ -15,7 +15,8 @@ use Rattle.promql_grammar.specs.declared.read_error.ReadError.TheVariants as rea
 use Rattle.promql_grammar.specs.Misfits.{AreMisfits}
 use Rattle.promql_grammar.specs.Symbols.{Symbol, symbol_of}
 use Rattle.promql_grammar.specs.SourceTokens.{Token, tokens, has_any}
-use Rattle.promql_span.specs.PlacedTokens.{TokensArePlaced, end_of, first_span, last_tokens, placed_tokens, symbols_at}
+use Rattle.promql_span.specs.PlacedTokens.{end_of, first_span, last_tokens, placed_tokens, symbols_at}
+use Rattle.promql_span.specs.TokensPlaced.{TokensArePlaced}
 use Rattle.promql_span.specs.TokenSpans.{IsAtTokens, span_over}
 use Rattle.promql_span.specs.SpanSteps.{in_range}
 use Rattle.promql_span.specs.declared.span.Span.{Span}

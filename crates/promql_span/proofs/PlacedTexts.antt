@@ -11,7 +11,8 @@ use Rattle.promql_token.specs.Lexing.{ScannedText, Found, cut, found, goes_on, i
 use Rattle.promql_token.proofs.one_reading.Spans.{spans, stands}
 use Rattle.promql_token.proofs.one_reading.Steps.{cut_is, found_fits}
 use Rattle.promql_token.proofs.cursors.TestsAndCounts.{by_bool}
-use Rattle.promql_span.specs.PlacedTokens.{PiecesArePlaced, TokensArePlaced, placed_tokens}
+use Rattle.promql_span.specs.PlacedTokens.{placed_tokens}
+use Rattle.promql_span.specs.TokensPlaced.{PiecesArePlaced, TokensArePlaced}
 use Rattle.promql_span.specs.TokensLeft.{up_to_end}
 use Rattle.promql_span.proofs.OrderedTokens.{placed_is}
 

@@ -1,6 +1,7 @@
 pub mod ByteEscapes
 pub mod CharSpans
 pub mod PlacedTokens
+pub mod TokensPlaced
 pub mod Snippets
 pub mod SpanSteps
 pub mod TokenSpans

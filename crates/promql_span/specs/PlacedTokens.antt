@@ -1,12 +1,11 @@
 -- The tokens of a text with their places (docs/reference/grammar.md, "Places of errors").
-use Rattle.std.specs.Prelude.{◌≡◌, ℕ, ◌+◌, ◌-◌, ◌==◌, not, List, length, drop, filter, map, slice_get, Ok}
+use Rattle.std.specs.Prelude.{◌≡◌, ℕ, ◌+◌, ◌-◌, ◌==◌, not, List, length, drop, filter, map, slice_get}
 use Rattle.std.specs.Option.{option_map_or}
 use Rattle.std.specs.Result.{ok_prefix}
 use Rattle.promql_text.specs.Texts.{Text}
 use Rattle.promql_token.specs.declared.ids.TheConstants.{T_EOF}
 use Rattle.promql_token.specs.declared.lexeme.Lexeme.{Lexeme}
-use Rattle.promql_token.specs.Cursor.{is_before_end, up_to_fault}
-use Rattle.promql_token.specs.Lexing.{items, pieces, slice_texts, start, tokens}
+use Rattle.promql_token.specs.Lexing.{items, slice_texts}
 use Rattle.promql_grammar.specs.Misfits.{AreMisfits}
 use Rattle.promql_grammar.specs.Symbols.{Symbol, symbol_of}
 use Rattle.promql_span.specs.declared.span.Span.{Span}
@@ -38,13 +37,3 @@ first_span s xs = option_map_or span_of (slice_get xs 0) (end_of s)
 abbrev pub IsAtMisfit : Text → Span → Type 0
 IsAtMisfit s span =
     (n : ℕ) × (let left = last_tokens n (placed_tokens s) in AreMisfits (symbols_at s (placed_tokens s)) (symbols_at s left) × (span ≡ first_span s left))
-
--- ---- laws
-
--- the tokens with their places are those of the token list
-abbrev pub TokensArePlaced : Type 0
-TokensArePlaced = (s : Text) (ts : List (ℕ × Text)) → tokens s ≡ Ok ts → filter is_before_end ts ≡ slice_texts s (placed_tokens s)
-
--- and those that a cursor gives, up to the end or to the fault
-abbrev pub PiecesArePlaced : Type 0
-PiecesArePlaced = (s : Text) → filter is_before_end (up_to_fault (pieces start s)) ≡ slice_texts s (placed_tokens s)
