@@ -3,6 +3,7 @@ pub mod Exacts
 pub mod Finites
 pub mod InForm
 pub mod NumberRelation
+pub mod NumberTests
 pub mod NumberTexts
 pub mod NumberValues
 pub mod OneForm

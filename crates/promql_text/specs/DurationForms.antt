@@ -1,12 +1,12 @@
 -- Which texts are durations, and of how many nanoseconds: a relation (docs/reference/texts.md,
 -- "The duration of a text").
-use Rattle.std.specs.Prelude.{◌≡◌, ◌≢◌, ◌⊎◌, ◌↔◌, ℕ, ◌+◌, ◌*◌, ◌%◌, ◌^◌, ◌<◌, ◌≤◌, ⊤, true, false, if◌then◌else◌, List, [], ◌∷◌, ◌++◌, length, Result, Ok, Err}
+use Rattle.std.specs.Prelude.{◌≡◌, ◌≢◌, ◌⊎◌, ℕ, ◌+◌, ◌*◌, ◌%◌, ◌^◌, ◌<◌, ◌≤◌, ⊤, true, false, if◌then◌else◌, List, [], ◌∷◌, ◌++◌, length, Result, Ok, Err}
 use Rattle.std.specs.Str.Parse.{AllDigits, digits_value}
 use Rattle.promql_text.specs.Texts.{Text}
 use Rattle.promql_text.specs.DecimalForm.{Numeral, Reading, NotANumber, digits_number, places, exponent_size}
 use Rattle.promql_text.specs.DecimalForm as form
 use Rattle.promql_text.specs.NumeralSpelling.{IsDecimalForm}
-use Rattle.promql_text.specs.Durations.{nanos_of, word_of, units, duration_of}
+use Rattle.promql_text.specs.Durations.{nanos_of, word_of, units}
 use Rattle.promql_text.specs.declared.duration.Unit.{Unit}
 use Rattle.promql_text.specs.declared.duration.DurationFault.{DurationFault}
 use Rattle.promql_text.specs.declared.duration.DurationFault.TheVariants as fault
@@ -78,6 +78,3 @@ IsDuration s (Err fault.Empty) = s ≡ []
 IsDuration s (Err fault.NotPositive) = Means s (Nanos 0) ⊎ Means s Negative
 IsDuration s (Err fault.Overflow) = Means s Infinite ⊎ ((n : ℕ) × Means s (Nanos n) × (2 ^ 64 * 1_000_000_000 ≤ n))
 IsDuration s (Err fault.Invalid) = (s ≢ []) × ((m : Meaning) → Means s m → ⊥)
-
-abbrev pub DurationsMatchRelation : Type 0
-DurationsMatchRelation = (s : Text) (r : Result ℕ DurationFault) → (duration_of s ≡ r) ↔ IsDuration s r

@@ -1,13 +1,26 @@
 -- How the code reads the parts of a duration (private: nothing rests on believing it).
-use Rattle.std.specs.Prelude.{◌≡◌, ℕ, ◌+◌, ◌-◌, ◌^◌, ◌<◌, min, true, false, if◌then◌else◌, List, [], ◌∷◌, length, Option, Some, None, option_map}
+use Rattle.std.specs.Prelude.{◌≡◌, ℕ, ◌+◌, ◌-◌, ◌^◌, ◌<◌, min, true, false, if◌then◌else◌, List, [], ◌∷◌, length, Option, Some, None, option_map, Result}
 use Rattle.std.specs.Char.{is_ascii_digit}
+use Rattle.std.specs.Duration.{as_nanos}
+use Rattle.std.specs.Result.{result_map_both}
+use Rattle.std.specs.declared.time.Duration.{Duration}
 use Rattle.std.specs.Str.{bytes_eq}
 use Rattle.std.specs.Str.Parse.{digits_value}
 use Rattle.std.proofs.Common.{Bor}
 use Rattle.promql_text.specs.DecimalForm.{front, digit_run, past_run}
 use Rattle.promql_text.specs.Durations.{word_of, parts_nanos}
 use Rattle.promql_text.specs.Texts.{Text}
+use Rattle.promql_text.specs.declared.duration.DurationFault.{DurationFault}
 use Rattle.promql_text.specs.declared.duration.Unit.{Unit}
+use Rattle.promql_text.specs.declared.duration.Unit.TheVariants.{Day, Hour, Minute, Second, Milli}
+
+-- the result is what was said: a duration of that many nanoseconds, or that fault
+abbrev pub GivesDuration : Result Duration DurationFault → Result ℕ DurationFault → Type 0
+GivesDuration r said = said ≡ result_map_both as_nanos (λ f. f) r
+
+-- the units of the text of a duration that is no whole number of weeks or years
+abbrev pub short_units : List Unit
+short_units = Day ∷ Hour ∷ Minute ∷ Second ∷ Milli ∷ []
 
 -- what saturating arithmetic leaves of a number
 abbrev pub cap_u128 : ℕ → ℕ

@@ -15,15 +15,12 @@ abbrev pub counts_text : List Unit → ℕ → Text
 counts_text [] n = []
 counts_text (u ∷ us) n = count_text (n / nanos_of u) u ++ counts_text us (n % nanos_of u)
 
-abbrev pub short_units : List Unit
-short_units = Day ∷ Hour ∷ Minute ∷ Second ∷ Milli ∷ []
-
 -- whole milliseconds: years, or weeks, where nothing remains, else days, hours, minutes, seconds and milliseconds
 abbrev pub whole_text : ℕ → Text
 whole_text n =
     if n % nanos_of Year == 0 then count_text (n / nanos_of Year) Year
     else (if n % nanos_of Week == 0 then count_text (n / nanos_of Week) Week
-    else counts_text short_units n)
+    else counts_text (Day ∷ Hour ∷ Minute ∷ Second ∷ Milli ∷ []) n)
 
 -- r as k digits after a point, without zeros at the end
 unfoldable pub fraction_text : ℕ → ℕ → Text

@@ -1,11 +1,9 @@
 -- The duration of a text, as a whole number of nanoseconds: docs/reference/texts.md, "Durations".
-use Rattle.std.specs.Prelude.{◌≡◌, ℕ, ◌+◌, ◌*◌, ◌/◌, ◌%◌, ◌^◌, Bool, not, if◌then◌else◌, ◌==◌, ◌&&◌, nat_lt, List, [], ◌∷◌, length, take, drop, codes, Option, Some, None, option_map, Result, Ok, Err}
+use Rattle.std.specs.Prelude.{ℕ, ◌+◌, ◌*◌, ◌/◌, ◌%◌, ◌^◌, Bool, not, if◌then◌else◌, ◌==◌, ◌&&◌, nat_lt, List, [], ◌∷◌, length, take, drop, codes, Option, Some, None, option_map, Result, Ok, Err}
 use Rattle.std.specs.Char.{is_ascii_digit}
 use Rattle.std.specs.List.{prefix_len}
 use Rattle.std.specs.Str.{bytes_eq}
 use Rattle.std.specs.Str.Parse.{digits_value}
-use Rattle.std.specs.Duration.{as_nanos}
-use Rattle.std.specs.declared.time.Duration.{Duration}
 use Rattle.promql_text.specs.Texts.{Text}
 use Rattle.promql_text.specs.DecimalForm.{front, digit_run, past_run, Numeral, Reading, NotANumber, Infinite, Signed, decimal_form, digits_number, places, exponent_size}
 use Rattle.promql_text.specs.DecimalForm as form
@@ -94,8 +92,3 @@ of_form None s = of_parts (parts_nanos units s)
 -- the duration of a text
 unfoldable pub duration_of : Text → Result ℕ DurationFault
 duration_of s = if length s == 0 then Err fault.Empty else of_form (decimal_form s) s
-
--- the result is what was said: a duration of that many nanoseconds, or that fault
-abbrev pub GivesDuration : Result Duration DurationFault → Result ℕ DurationFault → Type 0
-GivesDuration (Ok d) said = said ≡ Ok (as_nanos d)
-GivesDuration (Err f) said = said ≡ Err f

@@ -5,6 +5,7 @@ pub mod DurationReaders
 pub mod DurationText
 pub mod Durations
 pub mod Equalities
+pub mod JoinedWrites
 pub mod Millis
 pub mod NumberDigits
 pub mod NumberForms

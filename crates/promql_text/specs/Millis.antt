@@ -4,13 +4,9 @@ use Rattle.promql_text.specs.Numbers.{Exact}
 use Rattle.promql_text.specs.declared.number.Number.{Number}
 use Rattle.promql_text.specs.declared.number.Number.TheVariants.{Finite}
 
--- n divided by d, rounded to the nearest whole number, a half up
-abbrev pub round_half_up : ℕ → ℕ → ℕ
-round_half_up n d = (2 * n + d) / (2 * d)
-
--- the milliseconds of a number without its sign, so that a half goes away from zero
+-- the milliseconds of a number without its sign, rounded to the nearest whole number, a half up: so a half goes away from zero
 abbrev pub millis : Exact → ℕ
-millis d = round_half_up (d.digits * 10 ^ (d.zeros + 3)) (10 ^ d.places)
+millis d = (2 * (d.digits * 10 ^ (d.zeros + 3)) + 10 ^ d.places) / (2 * 10 ^ d.places)
 
 -- the whole number with this sign and size, where 64 bits hold it
 abbrev pub within_i64 : Bool → ℕ → Option ℤ

@@ -1,30 +1,19 @@
 -- Which texts are numbers, and which numbers: a relation (docs/reference/texts.md, "The number of a text").
 -- White space is left out of these texts.
-use Rattle.std.specs.Prelude.{◌≡◌, ◌⊎◌, ◌↔◌, ℕ, ◌+◌, ◌*◌, ◌^◌, ◌<◌, ◌≤◌, Bool, true, false, if◌then◌else◌, [], ◌∷◌, ◌++◌, length, Result, Ok, Err}
-use Rattle.std.specs.Char.{digit_value}
+use Rattle.std.specs.Prelude.{◌≡◌, ◌⊎◌, ℕ, ◌+◌, ◌*◌, ◌^◌, ◌<◌, ◌≤◌, Bool, true, false, if◌then◌else◌, [], ◌∷◌, ◌++◌, length, Result, Ok, Err}
 use Rattle.std.specs.List.{list_any}
 use Rattle.std.specs.Str.Parse.{AllDigits, digits_value}
 use Rattle.promql_text.specs.Texts.{Text}
 use Rattle.promql_text.specs.DecimalForm.{Reading, NotANumber, Infinite, Signed, digits_number}
 use Rattle.promql_text.specs.DecimalForm as form
 use Rattle.promql_text.specs.DurationForms.{up, down}
-use Rattle.promql_text.specs.NumberText.{is_x, is_past_octal, without_whitespace, read_number}
+use Rattle.promql_text.specs.NumberText.{is_x, is_past_octal}
 use Rattle.promql_text.specs.Numbers.{Exact, IsExact}
 use Rattle.promql_text.specs.NumeralSpelling.{IsSign, IsDecimalForm}
 use Rattle.promql_text.specs.declared.number.Number.{Number}
 use Rattle.promql_text.specs.declared.number.Number.TheVariants as number
 use Rattle.promql_text.specs.declared.number.NumberFault.{NumberFault}
 use Rattle.promql_text.specs.declared.number.NumberFault.TheVariants as fault
-
--- ---- digits
-
--- each digit times its power of the radix, together
-abbrev pub sum_of_digits : ℕ → Text → ℕ
-sum_of_digits radix [] = 0
-sum_of_digits radix (c ∷ ds) = digit_value c * radix ^ length ds + sum_of_digits radix ds
-
-abbrev pub DigitsAreSummed : Type 0
-DigitsAreSummed = (radix : ℕ) (ds : Text) → digits_value radix ds ≡ sum_of_digits radix ds
 
 -- ---- texts
 
@@ -76,6 +65,3 @@ Gives (Decimal f) r = GivesReading f.is_negative f.reading r
 -- the text gives this number, or has this fault
 abbrev pub IsNumberText : Text → Result Number NumberFault → Type 0
 IsNumberText t r = ((m : Meaning) × Means t m × Gives m r) ⊎ (((m : Meaning) → Means t m → ⊥) × (r ≡ Err fault.NotANumber))
-
-abbrev pub NumbersMatchRelation : Type 0
-NumbersMatchRelation = (s : Text) (r : Result Number NumberFault) → (read_number s ≡ r) ↔ IsNumberText (without_whitespace s) r

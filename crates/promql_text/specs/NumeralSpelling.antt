@@ -1,10 +1,10 @@
 -- How the decimal form is spelled: a relation between texts and what they are (docs/reference/texts.md,
 -- "The decimal form").
-use Rattle.std.specs.Prelude.{◌≡◌, ◌⊎◌, ◌↔◌, ℕ, ◌+◌, ◌<◌, Bool, true, false, [], ◌∷◌, ◌++◌, length, codes, Some}
+use Rattle.std.specs.Prelude.{◌≡◌, ◌⊎◌, ℕ, ◌+◌, ◌<◌, Bool, true, false, [], ◌∷◌, ◌++◌, length, codes}
 use Rattle.std.specs.Str.{str_to_ascii_lowercase}
 use Rattle.std.specs.Str.Parse.{AllDigits}
 use Rattle.promql_text.specs.Texts.{Text}
-use Rattle.promql_text.specs.DecimalForm.{Numeral, numeral, Reading, NotANumber, Infinite, Finite, Signed, decimal_form}
+use Rattle.promql_text.specs.DecimalForm.{Numeral, Reading, NotANumber, Infinite, Finite, Signed}
 
 -- `-`, or `+` or nothing
 abbrev pub IsSign : Bool → Text → Type 0
@@ -27,9 +27,6 @@ Spells n t =
     (point : Text) × (end : Text) × (t ≡ n.whole ++ (point ++ (n.fraction ++ end))) × AllDigits 10 n.whole × AllDigits 10 n.fraction
     × (0 < length n.whole + length n.fraction) × IsPoint point n.fraction × IsExponent n end
 
-abbrev pub NumeralsAreSpelled : Type 0
-NumeralsAreSpelled = (t : Text) (n : Numeral) → (numeral t ≡ Some n) ↔ Spells n t
-
 -- `nan`, `inf` or `infinity` in any case, or a numeral
 abbrev pub IsReading : Reading → Text → Type 0
 IsReading NotANumber t = str_to_ascii_lowercase t ≡ codes "nan"
@@ -39,6 +36,3 @@ IsReading (Finite n) t = Spells n t
 -- a sign or none, and one of these
 abbrev pub IsDecimalForm : Signed → Text → Type 0
 IsDecimalForm f t = (sign : Text) × (body : Text) × (t ≡ sign ++ body) × IsSign f.is_negative sign × IsReading f.reading body
-
-abbrev pub FormsAreSpelled : Type 0
-FormsAreSpelled = (t : Text) (f : Signed) → (decimal_form t ≡ Some f) ↔ IsDecimalForm f t

@@ -2,24 +2,20 @@
 use Rattle.std.specs.Prelude.{◌≡◌, ℕ, zero, suc, ◌+◌, ◌-◌, ◌*◌, Bool, if◌then◌else◌, ◌==◌, ◌||◌, nat_lt, nat_le, [], ◌∷◌, ◌++◌, length, Option, Some, None, IsSome, option_and_then, option_map, Result, Ok, Err}
 use Rattle.std.specs.Char.{encode_utf8, digit_value}
 use lib.Utf8.{scalar}
-use Rattle.promql_text.specs.Texts.{Text}
+use Rattle.std.specs.List.{flat_map}
+use Rattle.std.specs.Option.{option_map_or}
+use Rattle.promql_text.specs.Texts.{Text, lookup}
 use Rattle.promql_text.specs.declared.quote.QuoteError.{QuoteError}
 use Rattle.promql_text.specs.declared.quote.QuoteError.TheVariants as errors
 
--- "Escaping": a byte, or the two that are for it
+-- "Escaping": a byte, or a backslash and the byte beside it in this table
 abbrev pub escaped_byte : ℕ → Text
 escaped_byte b =
-    if b == 92 then 92 ∷ 92 ∷ []
-    else (if b == 34 then 92 ∷ 34 ∷ []
-    else (if b == 10 then 92 ∷ 110 ∷ []
-    else (if b == 13 then 92 ∷ 114 ∷ []
-    else (if b == 9 then 92 ∷ 116 ∷ []
-    else b ∷ []))))
+    option_map_or (λ k. 92 ∷ k ∷ []) (lookup (λ k b. b == k) ((92, 92) ∷ (34, 34) ∷ (10, 110) ∷ (13, 114) ∷ (9, 116) ∷ []) b) (b ∷ [])
 
 -- "Escaping": the text with each of the five characters escaped
 abbrev pub escaped_text : Text → Text
-escaped_text [] = []
-escaped_text (b ∷ s) = escaped_byte b ++ escaped_text s
+escaped_text = flat_map escaped_byte
 
 -- the escape of a text between double quotes
 abbrev pub quoted_text : Text → Text
@@ -31,16 +27,7 @@ is_quote b = (b == 34 || b == 39) || b == 96
 
 -- "Letter escapes": the character that one letter, or a backslash, is for after a backslash
 abbrev pub letter : ℕ → Option ℕ
-letter b =
-    if b == 97 then Some 7
-    else (if b == 98 then Some 8
-    else (if b == 102 then Some 12
-    else (if b == 110 then Some 10
-    else (if b == 114 then Some 13
-    else (if b == 116 then Some 9
-    else (if b == 118 then Some 11
-    else (if b == 92 then Some 92
-    else None)))))))
+letter = lookup (λ k b. b == k) ((97, 7) ∷ (98, 8) ∷ (102, 12) ∷ (110, 10) ∷ (114, 13) ∷ (116, 9) ∷ (118, 11) ∷ (92, 92) ∷ [])
 
 -- the number that n more digits write in a base, after those that wrote `start`
 abbrev pub number : ℕ → ℕ → ℕ → Text → Option ℕ

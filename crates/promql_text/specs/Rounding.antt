@@ -1,6 +1,6 @@
 -- Digits that are read one by one and rounded at a point among or after them
 -- (private: nothing rests on believing it).
-use Rattle.std.specs.Prelude.{◌≡◌, ℕ, ◌+◌, ◌-◌, ◌*◌, ◌^◌, ◌<◌, if◌then◌else◌, nat_le, length, take, drop, true, false, Option, Some, None}
+use Rattle.std.specs.Prelude.{◌≡◌, ℕ, ◌+◌, ◌-◌, ◌*◌, ◌/◌, ◌^◌, ◌<◌, if◌then◌else◌, nat_le, length, take, drop, true, false, Option, Some, None}
 use Rattle.std.specs.Str.Parse.{digits_value}
 use Rattle.promql_text.specs.Texts.{Text}
 use Rattle.promql_text.specs.DecimalForm.{Numeral, exponent_size}
@@ -15,6 +15,10 @@ unfoldable pub at_point : ℕ → Text → ℕ
 at_point n ds =
     if nat_le (length ds) n then digits_value 10 ds * 10 ^ (n - length ds)
     else nearest (digits_value 10 ds) (10 ^ (length ds - n))
+
+-- n divided by d, rounded to the nearest whole number, a half up
+abbrev pub round_half_up : ℕ → ℕ → ℕ
+round_half_up n d = (2 * n + d) / (2 * d)
 
 -- how a number compares with another
 abbrev pub Compares : RoundingTail → ℕ → ℕ → Type 0

@@ -1,14 +1,10 @@
 -- What is asked of a number, and the number with the other sign (docs/reference/texts.md, "Numbers").
-use Rattle.std.specs.Prelude.{◌≡◌, ℕ, ◌+◌, ◌*◌, ◌^◌, Bool, true, false, ◌==◌, ℤ, unsigned_abs}
-use Rattle.std.specs.Int.{is_negative}
-use Rattle.promql_text.specs.Numbers.{Exact, IsExact, negate, seconds_of, whole}
+use Rattle.std.specs.Prelude.{ℕ, Bool, true, false, ◌==◌}
+use Rattle.promql_text.specs.Numbers.{IsExact, negate, seconds_of}
 use Rattle.promql_text.specs.declared.number.Number.{Number}
 use Rattle.promql_text.specs.declared.number.Number.TheVariants.{Finite, Inf, NegInf, NaN}
 
-abbrev pub from_whole : ℤ → Number
-from_whole n = Finite (whole (is_negative n) (unsigned_abs n))
-
--- the seconds of so many nanoseconds
+-- the seconds of so many nanoseconds (private: for proofs alone)
 abbrev pub from_nanos : ℕ → Number
 from_nanos n = Finite (seconds_of n)
 
@@ -40,7 +36,3 @@ is_zero _ = false
 abbrev pub IsNumber : Number → Type 0
 IsNumber (Finite d) = IsExact d
 IsNumber _ = Unit {0}
-
--- two finite numbers of one value: their digits, with the zeros and places of both, are one whole number
-abbrev pub SameValue : Exact → Exact → Type 0
-SameValue v w = (v.is_negative ≡ w.is_negative) × (v.digits * 10 ^ (v.zeros + w.places) ≡ w.digits * 10 ^ (w.zeros + v.places))

@@ -3,6 +3,7 @@
 ghost use Rattle.std.specs.Prelude.{◌≡◌, ◌<◌, ◌≤◌, [], ◌∷◌, None, Some, IfSome, length, option_map};
 ghost use Rattle.std.specs.Duration.{as_nanos};
 ghost use Rattle.std.specs.List.{prefix_len};
+ghost use Rattle.std.specs.Result.{result_map_both};
 ghost use Rattle.std.specs.Str.Parse.{digits_value};
 ghost use Rattle.promql_text.specs.DecimalForm.{decimal_form};
 ghost use Rattle.promql_text.specs.DecimalParts.{reading_of};
@@ -204,7 +205,7 @@ fn single_part(text: &[u8]) -> Option<u128>
 
 /// The duration of so many nanoseconds, above zero and no more than the greatest.
 fn in_range(nanos: u128) -> Result<Duration, DurationFault>
-    ensures { spec.GivesDuration result (spec.in_range nanos) }
+    ensures { readers.GivesDuration result (spec.in_range nanos) }
 {
     if nanos == 0 {
         Err(DurationFault::NotPositive)
@@ -217,7 +218,7 @@ fn in_range(nanos: u128) -> Result<Duration, DurationFault>
 
 /// The duration of a number of seconds.
 fn of_seconds(form: DecimalForm<&[u8]>) -> Result<Duration, DurationFault>
-    ensures { spec.GivesDuration result
+    ensures { readers.GivesDuration result
         (spec.of_seconds form.entry.is_negative (reading_of (λ s. s.now) form.entry.reading)) }
 {
     match form.reading {
@@ -230,7 +231,7 @@ fn of_seconds(form: DecimalForm<&[u8]>) -> Result<Duration, DurationFault>
 
 /// The duration of a text of parts.
 fn of_parts(text: &[u8]) -> Result<Duration, DurationFault>
-    ensures { spec.GivesDuration result (spec.of_parts (spec.parts_nanos spec.units text.now)) }
+    ensures { readers.GivesDuration result (spec.of_parts (spec.parts_nanos spec.units text.now)) }
 {
     match parts(text) {
         Some(nanos) => in_range(nanos),
@@ -247,7 +248,7 @@ fn of_parts(text: &[u8]) -> Result<Duration, DurationFault>
 /// number with a minus sign; `Overflow` where it means more than `Duration::MAX`; `Invalid` for
 /// `nan` and for every other text.
 pub fn parse_duration(ds: &str) -> Result<Duration, DurationFault>
-    ensures { spec.GivesDuration result (spec.duration_of ds.now) }
+    ensures { spec.duration_of ds.now ≡ result_map_both as_nanos (λ f. f) result }
 {
     let text = ds.as_bytes();
     if text.is_empty() {

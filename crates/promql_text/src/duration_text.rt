@@ -4,6 +4,7 @@ ghost use Rattle.std.specs.Prelude.{◌≡◌, ◌/◌, ◌%◌, ◌<◌, ◌^�
 ghost use Rattle.std.specs.Duration.{as_nanos};
 ghost use Rattle.std.specs.String.{string_bytes};
 ghost use Rattle.promql_text.specs.Durations.{nanos_of};
+ghost use Rattle.promql_text.specs.DurationReaders.{short_units};
 ghost use Rattle.promql_text.specs.DurationText as spec;
 
 use crate::duration::Unit;
@@ -63,7 +64,7 @@ impl fmt::Display for Fraction {
 struct Counts(u128);
 
 impl fmt::Display for Counts {
-    ghost output = { λ n. Some (spec.counts_text spec.short_units n.0) };
+    ghost output = { λ n. Some (spec.counts_text short_units n.0) };
 
     fn fmt<W: fmt::Write>(&self, f: &mut fmt::Formatter<W>) -> fmt::Result {
         let (days, rest) = divide_by_unit(self.0, Unit::Day);

@@ -23,7 +23,7 @@
 
 ghost use Rattle.std.specs.Prelude.{◌≡◌, ◌==◌, if◌then◌else◌, [], Some, map};
 ghost use Rattle.std.specs.Fmt.{DisplaysOnOk, DisplaysStyledOnOk, WritesOnOk, WritesStyledOnOk, formatter_spec};
-ghost use Rattle.promql_text.specs.Texts.{Text, WritesBy, joined_text};
+ghost use Rattle.promql_text.specs.Texts.{Text, joined_text};
 
 use std::fmt;
 use std::fmt::Display;
@@ -75,10 +75,14 @@ pub fn write_joined_by<T, W: fmt::Write, F: Fn(&T, &mut fmt::Formatter<W>) -> fm
     write: F,
 ) -> fmt::Result
     requires { F.IsAlwaysCallable write }
-    ensures writes { (text : T → Text) → WritesBy (WritesOnOk W.write_str_gives) (F.post write) text
+    ensures writes { (text : T → Text)
+        → ((item : _) (old : _) (r : _) (new : _) → F.post write item old r new
+        → WritesOnOk W.write_str_gives old.now r (text item.now) new.now)
         → WritesOnOk W.write_str_gives f.old result
         (joined_text separator.now (map text items.now)) f.new }
-    ensures styled { (text : T → Text) → WritesBy (WritesStyledOnOk W.write_str_gives) (F.post write) text
+    ensures styled { (text : T → Text)
+        → ((item : _) (old : _) (r : _) (new : _) → F.post write item old r new
+        → WritesStyledOnOk W.write_str_gives old.now r (text item.now) new.now)
         → WritesStyledOnOk W.write_str_gives f.old result
         (joined_text separator.now (map text items.now)) f.new }
 {

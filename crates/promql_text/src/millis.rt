@@ -2,6 +2,7 @@
 
 ghost use Rattle.std.specs.Prelude.{◌≡◌, ◌+◌, ◌^◌, ◌<◌, ◌≤◌, Option, Some, None, MatchOption};
 ghost use Rattle.promql_text.specs.Millis as spec;
+ghost use Rattle.promql_text.specs.Rounding.{round_half_up};
 
 use crate::decimal::Decimal;
 use crate::number::Number;
@@ -12,7 +13,7 @@ const MOST: u128 = 0x8000_0000_0000_0000;
 /// The quotient of a number and a power of ten, rounded to the nearest whole number, a half up.
 fn round_quotient(digits: u128, places: u16) -> u128
     requires { digits < 10 ^ 38 }
-    ensures value { result ≡ spec.round_half_up digits (10 ^ places) }
+    ensures value { result ≡ round_half_up digits (10 ^ places) }
     ensures short { result ≤ 10 ^ 38 }
 {
     if places > 38 {

@@ -1,8 +1,11 @@
 //! Numbers (docs/reference/texts.md, "Numbers").
 
-ghost use Rattle.std.specs.Prelude.{◌≡◌, true, false, not};
+ghost use Rattle.std.specs.Prelude.{◌≡◌, true, false, not, unsigned_abs};
 ghost use Rattle.std.specs.Duration.{as_nanos};
+ghost use Rattle.std.specs.Int.{is_negative};
+ghost use Rattle.promql_text.specs.Numbers.{seconds_of, whole};
 ghost use Rattle.promql_text.specs.Values as spec;
+ghost use Rattle.promql_text.specs.declared.number.Number.TheVariants.{Finite};
 
 use crate::decimal::Decimal;
 use std::time::Duration;
@@ -38,14 +41,14 @@ pub enum NumberFault {
 impl Number {
     /// A whole number.
     pub fn from_i64(n: i64) -> Number
-        ensures { result ≡ spec.from_whole n }
+        ensures { result ≡ Finite (whole (is_negative n) (unsigned_abs n)) }
     {
         Number::Finite(Decimal::whole(n < 0, n.unsigned_abs()))
     }
 
     /// The seconds of a duration, exactly: at most 20 digits before the point and 9 after it.
     pub fn of_duration(duration: &Duration) -> Number
-        ensures { result ≡ spec.from_nanos (as_nanos duration.now) }
+        ensures { result ≡ Finite (seconds_of (as_nanos duration.now)) }
     {
         let whole = u128::from(duration.as_secs()) * 1_000_000_000;
         let nanos = whole + u128::from(duration.subsec_nanos());

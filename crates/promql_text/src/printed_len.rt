@@ -4,6 +4,7 @@
 ghost use Rattle.std.specs.Prelude.{◌≡◌, ◌==◌, ◌/◌, ◌^◌, ◌<◌, [], if◌then◌else◌, length};
 ghost use Rattle.std.specs.Char.{encode_utf8};
 ghost use Rattle.std.specs.Duration.{as_nanos};
+ghost use Rattle.promql_text.specs.DurationReaders.{short_units};
 ghost use Rattle.promql_text.specs.DurationText as durations;
 ghost use Rattle.promql_text.specs.NumberDigits.{exact_text, magnitude_text};
 ghost use Rattle.promql_text.specs.NumberText.{number_text};
@@ -108,7 +109,7 @@ fn whole_len(nanos: u128) -> usize
 /// The bytes of nanoseconds in days, hours, minutes, seconds and milliseconds.
 fn counts_len(nanos: u128) -> usize
     requires { nanos < 10 ^ 38 }
-    ensures value { result ≡ length (durations.counts_text durations.short_units nanos) }
+    ensures value { result ≡ length (durations.counts_text short_units nanos) }
     ensures short { result < 2 ^ 20 }
 {
     let day = u128::from(Unit::Day.nanos());

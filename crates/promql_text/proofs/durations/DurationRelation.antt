@@ -1,13 +1,13 @@
 -- The duration of a text is what its parts or its seconds say.
 use Rattle.std.proofs.Common.{◌≡◌, ◌≢◌, ◌⊎◌, ⊎_elim, inl, inr, ℕ, ◌*◌, ◌^◌, ◌<◌, ◌≤◌, Bool, true, false, cond, List, [], ◌∷◌, length, Option, Some, None, Result, Ok, Err, refl, sym, ap, ◌∙◌, subst, arith}
-use Rattle.std.specs.Prelude.{◌==◌, nat_lt}
+use Rattle.std.specs.Prelude.{◌==◌, ◌↔◌, nat_lt}
 use Rattle.std.proofs.lemmas.Bool.{cond_both, cond-false, eqb-true, ne_eqb, le-ltb}
 use Rattle.std.proofs.lemmas.Bool.Decides.{nat_tests}
 use Rattle.promql_text.specs.Texts.{Text}
 use Rattle.promql_text.specs.DecimalForm.{numeral, reading, Reading, NotANumber, Signed, decimal_form}
 use Rattle.promql_text.specs.DecimalForm as form
 use Rattle.promql_text.specs.Durations.{units, parts_nanos, second_nanos, in_range, of_seconds, of_parts, duration_of}
-use Rattle.promql_text.specs.DurationForms.{Part, IsParts, Meaning, Nanos, Negative, Infinite, Means, IsDuration, DurationsMatchRelation, parts_text}
+use Rattle.promql_text.specs.DurationForms.{Part, IsParts, Meaning, Nanos, Negative, Infinite, Means, IsDuration, parts_text}
 use Rattle.promql_text.specs.NumeralSpelling.{IsDecimalForm}
 use Rattle.promql_text.specs.declared.duration.DurationFault.{DurationFault}
 use Rattle.promql_text.specs.declared.duration.DurationFault.TheVariants.{Empty, NotPositive, Invalid, Overflow}
@@ -146,5 +146,5 @@ duration_is s (Err NotPositive) h = ⊎_elim (λ none. means_said s (Nanos 0) no
 duration_is s (Err Overflow) h = ⊎_elim (λ infinite. means_said s Infinite infinite) (λ past. means_said s (Nanos past.0) past.1 ∙ in_range_past past.0 past.2) h
 duration_is s (Err Invalid) h = ⊎_elim (λ meant. absurd (h.1 meant.0 meant.1)) (λ invalid. invalid) (text_meant s (decimal_form s) h.0 refl)
 
-pub durations_told : DurationsMatchRelation
+pub durations_told : (s : Text) (r : Result ℕ DurationFault) → (duration_of s ≡ r) ↔ IsDuration s r
 durations_told s r = ((λ is. let P : Result ℕ DurationFault → Type 0 = λ q. IsDuration s q in subst P is (duration_told s)), (λ h. duration_is s r h))

@@ -2,7 +2,7 @@
 use Rattle.std.proofs.Common.{◌≡◌, ℕ, ◌+◌, ◌-◌, ◌*◌, ◌/◌, ◌%◌, ◌^◌, ◌<◌, ◌≤◌, arith, ap, ◌∙◌, sym, Option, Some, None, MatchOption, SomeIff}
 use Rattle.std.proofs.Math.Nat.{div-eq_of_lt-le, mul-div-mul_right, pow-le-pow_right, mod-lt}
 use Rattle.std.proofs.lemmas.Nat.{div-add-mod', pow-add}
-use Rattle.promql_text.specs.Millis.{round_half_up}
+use Rattle.promql_text.specs.Rounding.{round_half_up}
 use Rattle.promql_text.proofs.numbers.Tens.{ten_pos, times_both}
 
 round_is : (n b q : ℕ) → q * (2 * b) ≤ 2 * n + b → 2 * n + b < (q + 1) * (2 * b) → round_half_up n b ≡ q

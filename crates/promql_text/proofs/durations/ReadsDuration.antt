@@ -13,7 +13,8 @@ use Rattle.std.proofs.Math.Nat.{div-add-mod}
 use Rattle.promql_text.specs.Texts.{Text}
 use Rattle.promql_text.specs.DecimalForm.{front, past_run, past_point, ends_well, Finite, decimal_form}
 use Rattle.promql_text.specs.Durations.{nanos_of, word_of, units, is_no_digit, word_run, past_word, begins_part, parts_nanos, in_range, nearest, second_nanos, of_parts, duration_of}
-use Rattle.promql_text.specs.DurationText.{count_text, counts_text, short_units, whole_text, fraction_text, duration_text}
+use Rattle.promql_text.specs.DurationText.{count_text, counts_text, whole_text, fraction_text, duration_text}
+use Rattle.promql_text.specs.DurationReaders.{short_units}
 use Rattle.promql_text.specs.declared.duration.Unit.{Unit}
 use Rattle.promql_text.specs.declared.duration.Unit.TheVariants.{Year, Week, Day, Hour, Minute, Second, Milli}
 use Rattle.promql_text.proofs.durations.SaturatingParts.{parts-end, duration-form}

@@ -1,10 +1,11 @@
 -- The number of a text is what the text means.
 use Rattle.std.proofs.Common.{◌≡◌, ⊎_elim, inl, inr, Bool, Result, Err, refl, sym, ◌∙◌, subst}
+use Rattle.std.specs.Prelude.{◌↔◌}
 use Rattle.promql_text.specs.Texts.{Text}
 use Rattle.promql_text.specs.DecimalForm.{Reading, NotANumber, Infinite}
 use Rattle.promql_text.specs.DecimalForm as form
-use Rattle.promql_text.specs.NumberForms.{Meaning, Whole, Decimal, Means, GivesReading, Gives, IsNumberText, NumbersMatchRelation}
-use Rattle.promql_text.specs.NumberText.{without_whitespace, number_of, apply_sign}
+use Rattle.promql_text.specs.NumberForms.{Meaning, Whole, Decimal, Means, GivesReading, Gives, IsNumberText}
+use Rattle.promql_text.specs.NumberText.{without_whitespace, read_number, number_of, apply_sign}
 use Rattle.promql_text.specs.NumeralSpelling.{IsReading}
 use Rattle.promql_text.specs.declared.number.Number.{Number}
 use Rattle.promql_text.specs.declared.number.NumberFault.{NumberFault}
@@ -55,5 +56,5 @@ number_is t r h =
     (λ none. ⊎_elim (λ meant. absurd (none.0 meant.0 meant.1)) (λ is. is ∙ sym none.1) (text_found t))
     h
 
-pub numbers_told : NumbersMatchRelation
+pub numbers_told : (s : Text) (r : Result Number NumberFault) → (read_number s ≡ r) ↔ IsNumberText (without_whitespace s) r
 numbers_told s r = ((λ is. let P : Result Number NumberFault → Type 0 = λ q. IsNumberText (without_whitespace s) q in subst P is (number_told (without_whitespace s))), (λ h. number_is (without_whitespace s) r h))

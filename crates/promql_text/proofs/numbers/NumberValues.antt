@@ -52,7 +52,7 @@ value_one b m u v d e h k =
     (λ low. let none : m ≡ 0 = omega arith in (h.0.one_zero (zero_digits b m u v d h none)).0 ∙ sym (k.0.one_zero (zero_digits b m u v e k none)).0)
     (cases_lt 0 m)
     in
-    one_form d e h.0 k.0 (sign, cross_sizes d.digits d.zeros d.places e.digits e.zeros e.places m u v h.2 k.2)
+    one_form d e h.0 k.0 sign (cross_sizes d.digits d.zeros d.places e.digits e.zeros e.places m u v h.2 k.2)
 
 -- the digits of a number of this value, where it is c and z zeros
 value_digits : (b : Bool) (m u v : ℕ) (d : Exact) (c z : ℕ) → HasValue b m u v d → c * 10 ^ z ≡ m → c % 10 ≢ 0 → (d.digits ≡ c) × (d.zeros + v ≡ z + (u + d.places))
@@ -84,7 +84,7 @@ zero_value b m u v none = (
 
 -- ---- whole numbers
 
-whole_value : (b : Bool) (n : ℕ) → n < 2 ^ 63 → HasValue b n 0 0 (whole b n)
+pub whole_value : (b : Bool) (n : ℕ) → n < 2 ^ 64 → HasValue b n 0 0 (whole b n)
 whole_value b n less =
     let P : Exact → Type 0 = λ d. HasValue b n 0 0 d in
     ⊎_elim
@@ -108,12 +108,12 @@ not_below a b is = grind (arith, nat_tests)
 pub whole_gives : (b : Bool) (n : ℕ) → Gives (Whole b n) (result_of (Whole b n))
 whole_gives b n =
     cond_both (nat_lt n (2 ^ 63)) (Ok (number.Finite (whole b n))) (Err fault.OutOfRange) (Gives (Whole b n))
-    (λ less. let small = below n (2 ^ 63) less in (small, whole_value b n small))
+    (λ less. let small = below n (2 ^ 63) less in (small, whole_value b n (omega (arith, small))))
     (λ more. not_below n (2 ^ 63) more)
 
 pub whole_is : (b : Bool) (n : ℕ) (r : Result _ NumberFault) → Gives (Whole b n) r → result_of (Whole b n) ≡ r
 whole_is b n (Ok (number.Finite d)) h =
-    cond-true (nat_lt n (2 ^ 63)) _ _ (lt-ltb n (2 ^ 63) h.0) ∙ ap (λ e. Ok (number.Finite e)) (value_one b n 0 0 (whole b n) d (whole_value b n h.0) h.1)
+    cond-true (nat_lt n (2 ^ 63)) _ _ (lt-ltb n (2 ^ 63) h.0) ∙ ap (λ e. Ok (number.Finite e)) (value_one b n 0 0 (whole b n) d (whole_value b n (let low = h.0 in omega (arith, low))) h.1)
 whole_is b n (Ok number.Inf) h = absurd h
 whole_is b n (Ok number.NegInf) h = absurd h
 whole_is b n (Ok number.NaN) h = absurd h

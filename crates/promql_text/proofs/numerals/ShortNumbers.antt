@@ -11,10 +11,11 @@ use Rattle.std.proofs.lemmas.Bool.{cases_lt}
 use Rattle.promql_text.specs.Texts.{Text}
 use Rattle.std.specs.Str.{chars}
 use Rattle.promql_text.specs.DecimalForm.{decimal_form, front, numeral, reading}
+use Rattle.promql_text.specs.NumberForms.{HasValue}
 use Rattle.promql_text.specs.NumberText.{finite, number_of, read_number}
 use Rattle.promql_text.specs.Numbers.{Exact, IsExact, exact_zero, seconds_of, whole}
 use Rattle.promql_text.specs.declared.number.Number.TheVariants as number
-use Rattle.promql_text.proofs.numbers.Exacts.{seconds_value, whole_is, whole_value}
+use Rattle.promql_text.proofs.numbers.Exacts.{exact_zero_is, seconds_value, whole_is, whole_value, with_places_is}
 use Rattle.promql_text.proofs.numerals.Plain.{plain_digits}
 use Rattle.promql_text.proofs.numbers.ReadsBack.{finite_is, not_octal, number_signed}
 use Rattle.promql_text.proofs.numerals.Runs.{digit_value_below, front_digit}
@@ -105,15 +106,15 @@ digit_read c n digit is =
     (cases_lt 48 c)
 
 -- the seconds of so many nanoseconds have their value
-pub seconds_exact : (n : ℕ) → n < 2 ^ 64 * 1_000_000_000 → (seconds_of n).digits * 10 ^ ((seconds_of n).zeros + 9) ≡ n * 10 ^ (seconds_of n).places
-seconds_exact zero less = refl
+pub seconds_exact : (n : ℕ) → n < 2 ^ 64 * 1_000_000_000 → HasValue false n 0 9 (seconds_of n)
+seconds_exact zero less = (exact_zero_is, (λ _. refl), refl)
 seconds_exact (suc k) less =
     let n : ℕ = suc k in
     let parts = zeroless 29 n (omega arith) (omega arith) in
     let a : ℕ = parts.digits in
     let z : ℕ = parts.zeros in
     let above : 0 < a = (let ends = parts.ends in omega (arith, ends)) in
-    let P : Exact → Type 0 = λ d. d.digits * 10 ^ (d.zeros + 9) ≡ n * 10 ^ d.places in
+    let P : Exact → Type 0 = λ d. HasValue false n 0 9 d in
     let exact : a * 10 ^ ((z - 9) + 9) ≡ n * 10 ^ (9 - z) =
     ⊎_elim
     (λ (many : 9 < z).
@@ -124,4 +125,6 @@ seconds_exact (suc k) less =
     let up : (z - 9) + 9 ≡ z + (9 - z) = omega arith in
     ap (λ k. a * 10 ^ k) up ∙ times_both a z (9 - z) ∙ ap (λ m. m * 10 ^ (9 - z)) parts.is)
     (cases_lt 9 z) in
-    subst P (seconds_value a z n parts.is above parts.ends less) exact
+    let same : 9 - z ≡ 0 + (9 - z) = omega arith in
+    subst P (seconds_value a z n parts.is above parts.ends less)
+    (with_places_is a z n 9 parts.is above parts.ends less (omega arith), (λ _. refl), exact ∙ ap (λ k. n * 10 ^ k) same)

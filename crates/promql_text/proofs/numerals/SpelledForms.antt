@@ -1,6 +1,6 @@
 -- What is of the decimal form is spelled so: words in any case, numerals, and a sign.
 use Rattle.std.proofs.Common.{◌≡◌, ◌⊎◌, ⊎_elim, inl, inr, ℕ, ◌<◌, Bool, true, false, cond, ◌&&◌, ◌||◌, [], ◌∷◌, ◌++◌, drop, arith, ap, ◌∙◌, sym, refl, subst, Option, Some, None}
-use Rattle.std.specs.Prelude.{codes, option_map, ◌==◌}
+use Rattle.std.specs.Prelude.{codes, option_map, ◌==◌, ◌↔◌}
 use Rattle.std.specs.Char.{is_ascii_digit, to_ascii_lowercase}
 use Rattle.std.specs.Str.{bytes_eq, str_to_ascii_lowercase}
 use Rattle.std.proofs.lemmas.Bool.{cond_both}
@@ -8,7 +8,7 @@ use Rattle.std.proofs.lemmas.Bool.Decides.{nat_tests}
 use Rattle.std.proofs.lemmas.Slice.Eq.{bytes_eq-Decides}
 use Rattle.promql_text.specs.Texts.{Text}
 use Rattle.promql_text.specs.DecimalForm.{front, past_run, past_point, without_sign, is_minus, is_word, ends_well, Numeral, numeral, Reading, NotANumber, Infinite, Finite, reading, Signed, decimal_form}
-use Rattle.promql_text.specs.NumeralSpelling.{IsSign, IsReading, IsDecimalForm, FormsAreSpelled}
+use Rattle.promql_text.specs.NumeralSpelling.{IsSign, IsReading, IsDecimalForm}
 use Rattle.promql_text.proofs.numerals.Runs.{past_stops}
 use Rattle.promql_text.proofs.numerals.SpelledNumerals.{Signs, signs_at, SignCut, sign_at, both, either, some_numeral_is, numeral_is, spelled_reads, reads_spelled}
 use Rattle.promql_text.proofs.numerals.TextForms.{signed_of, form_at}
@@ -151,5 +151,5 @@ form_spelled t f is = of_reading (reading (without_sign t)) refl is
         let P : Signed → Type 0 = λ g. IsDecimalForm g t in
         subst P (same (signed_of (is_minus t) r) e) (c.sign, without_sign t, c.is, c.has, reading_spelled r (without_sign t) is)
 
-pub forms_spelled : FormsAreSpelled
+pub forms_spelled : (t : Text) (f : Signed) → (decimal_form t ≡ Some f) ↔ IsDecimalForm f t
 forms_spelled t f = (form_spelled t f, spelled_form t f)

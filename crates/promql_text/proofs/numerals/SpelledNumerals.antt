@@ -1,13 +1,13 @@
 -- The decimal form is what is spelled so.
 use Rattle.std.proofs.Common.{◌≡◌, ◌⊎◌, ⊎_elim, inl, inr, ℕ, ◌+◌, ◌<◌, Bool, true, false, cond, ◌&&◌, ◌||◌, [], ◌∷◌, ◌++◌, length, drop, arith, ap, ◌∙◌, sym, refl, subst, append-nil, take-append-drop, Option, Some, None}
-use Rattle.std.specs.Prelude.{◌==◌}
+use Rattle.std.specs.Prelude.{◌==◌, ◌↔◌}
 use Rattle.std.specs.Char.{is_ascii_digit}
 use Rattle.std.specs.List.{prefix_len}
 use Rattle.std.specs.Str.Parse.{AllDigits}
 use Rattle.std.proofs.lemmas.Bool.{eq-eqb, eqb-true, ne_eqb}
 use Rattle.promql_text.specs.Texts.{Text}
 use Rattle.promql_text.specs.DecimalForm.{front, digit_run, past_run, past_point, without_sign, is_minus, is_exponent, ends_well, Numeral, numeral}
-use Rattle.promql_text.specs.NumeralSpelling.{IsSign, IsPoint, IsExponent, Spells, NumeralsAreSpelled}
+use Rattle.promql_text.specs.NumeralSpelling.{IsSign, IsPoint, IsExponent, Spells}
 use Rattle.promql_text.proofs.numerals.Runs.{run_digits, past_run_digit, past_run_other, digit_run_digit, digit_run_other, run_append, past_append, run_all, past_all, front_digit}
 use Rattle.promql_text.proofs.numerals.TextForms.{digit_no_sign, digit_no_minus}
 
@@ -274,5 +274,5 @@ reads_spelled t n is =
     let P : Numeral → Type 0 = λ m. Spells m t in
     subst P g.1 s
 
-pub numeral_spelled : NumeralsAreSpelled
+pub numeral_spelled : (t : Text) (n : Numeral) → (numeral t ≡ Some n) ↔ Spells n t
 numeral_spelled t n = (reads_spelled t n, spelled_reads t n)

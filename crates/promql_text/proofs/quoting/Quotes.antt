@@ -1,7 +1,8 @@
 -- Escapes and back; what characters do to a reading in bytes.
-use Rattle.std.proofs.Common.{◌≡◌, ℕ, suc, ◌+◌, ◌-◌, ◌*◌, ◌^◌, ◌<◌, ◌≤◌, true, false, cond, [], ◌∷◌, ◌++◌, length, get_or, drop, Some, None, refl, sym, ap, ◌∙◌, subst, ⊎_elim, lit<, arith}
+use Rattle.std.proofs.Common.{◌≡◌, ℕ, suc, ◌+◌, ◌-◌, ◌*◌, ◌^◌, ◌<◌, ◌≤◌, true, false, cond, [], ◌∷◌, ◌++◌, length, get_or, drop, Option, Some, None, refl, sym, ap, ◌∙◌, subst, ⊎_elim, lit<, arith}
 use Rattle.std.specs.Prelude.{◌==◌, nat_lt, nat_le, option_and_then, option_map}
 use Rattle.std.specs.Char.{encode_utf8, digit_value}
+use Rattle.std.specs.Option.{option_map_or}
 use Rattle.std.proofs.lemmas.Bool.{cond_both, cond-true, cond-false, eqb-true, eq-eqb, ne_eqb, lt-ltb, le-ltb, le-leb, lt-leb, leb-true}
 use Rattle.std.proofs.lemmas.Grind.{common_steps}
 use Rattle.std.proofs.lemmas.List.{get_or_append_left}
@@ -31,7 +32,7 @@ escaped_reads [] = refl
 escaped_reads (b ∷ s) =
     let z : Text = escaped_text s ++ 34 ∷ [] in
     let rest = escaped_reads s in
-    let P : Text → Type 0 = λ e. Reads ((e ++ escaped_text s) ++ 34 ∷ []) (b ∷ s) in
+    let P : Option ℕ → Type 0 = λ k. Reads ((option_map_or (λ k. 92 ∷ k ∷ []) k (b ∷ []) ++ escaped_text s) ++ 34 ∷ []) (b ∷ s) in
     cond_both (b == 92) _ _ P (λ e. subst (λ k. Reads (92 ∷ 92 ∷ z) (k ∷ s)) (sym (eqb-true b 92 e)) (two 92 92 z s refl (lit< tt) rest)) (λ slash.
     cond_both (b == 34) _ _ P (λ e. subst (λ k. Reads (92 ∷ 34 ∷ z) (k ∷ s)) (sym (eqb-true b 34 e)) (two 34 34 z s refl (lit< tt) rest)) (λ quote.
     cond_both (b == 10) _ _ P (λ e. subst (λ k. Reads (92 ∷ 110 ∷ z) (k ∷ s)) (sym (eqb-true b 10 e)) (two 110 10 z s refl (lit< tt) rest)) (λ feed.

@@ -1,5 +1,6 @@
 use Rattle.std.proofs.Common.{ℕ, Result, sym, subst, ◌∙◌}
-use Rattle.promql_text.specs.Durations.{units, parts_nanos, GivesDuration}
+use Rattle.promql_text.specs.DurationReaders.{GivesDuration}
+use Rattle.promql_text.specs.Durations.{units, parts_nanos}
 use Rattle.promql_text.specs.declared.duration.DurationFault.{DurationFault}
 use Rattle.promql_text.proofs.durations.SaturatingParts.{parts_read, parts_none}
 use Rattle.promql_text.proofs.duration.of_parts.Goals as goal

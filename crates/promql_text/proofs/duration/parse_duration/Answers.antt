@@ -2,7 +2,8 @@ use Rattle.std.proofs.Common.{◌≡◌, ◌==◌, false, length, Some, None, Re
 use Rattle.std.proofs.lemmas.Bool.{eqb-true}
 use Rattle.promql_text.specs.DecimalForm.{decimal_form}
 use Rattle.promql_text.specs.DecimalParts.{form_of}
-use Rattle.promql_text.specs.Durations.{GivesDuration, of_parts, parts_nanos, units}
+use Rattle.promql_text.specs.DurationReaders.{GivesDuration}
+use Rattle.promql_text.specs.Durations.{of_parts, parts_nanos, units}
 use Rattle.promql_text.specs.declared.duration.DurationFault.{DurationFault}
 use Rattle.promql_text.proofs.durations.SaturatingParts.{duration-empty, duration-form}
 use Rattle.promql_text.proofs.duration.parse_duration.Goals as goal

@@ -1,7 +1,8 @@
 use Rattle.std.proofs.Common.{take}
 use Rattle.std.specs.Fmt.{HasWritten, HasWrittenStyled, IsFlush, IsPlainFormatter, WritesOnOk, WritesStyledOnOk}
 use Rattle.std.specs.List.{join_by}
-use Rattle.promql_text.specs.Texts.{Text, WritesBy}
+use Rattle.promql_text.specs.JoinedWrites.{WritesBy}
+use Rattle.promql_text.specs.Texts.{Text}
 use Rattle.promql_text.proofs.joined.write_joined_by.Given as goal
 
 abbrev pub invariant-loop-i : goal.invariant-loop-i

@@ -1,5 +1,6 @@
 use Rattle.std.proofs.Common.{◌-◌, ◌*◌, ◌^◌, ◌∙◌, ap, arith}
-use Rattle.promql_text.specs.Millis.{millis, round_half_up}
+use Rattle.promql_text.specs.Millis.{millis}
+use Rattle.promql_text.specs.Rounding.{round_half_up}
 use Rattle.promql_text.proofs.durations.Quotients.{millis_of_places, millis_of_zeros, millis_if_short}
 use Rattle.promql_text.proofs.millis.magnitude.Goals as goal
 

@@ -1,6 +1,6 @@
 use Rattle.std.proofs.Common.{◌≡◌, ◌<◌, ◌%◌, ◌^◌, ◌∙◌, ap, arith}
 use Rattle.std.proofs.Math.Nat.{mod-lt}
-use Rattle.promql_text.specs.Millis as spec
+use Rattle.promql_text.specs.Rounding as spec
 use Rattle.promql_text.proofs.durations.Quotients.{round_down, round_up, round_none}
 use Rattle.promql_text.proofs.numerals.Points.{power_within}
 use Rattle.promql_text.proofs.numbers.Tens.{ten_pos}
