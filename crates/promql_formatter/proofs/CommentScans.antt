@@ -1,14 +1,14 @@
 -- What is found byte by byte is the comments of the lines.
 use Rattle.std.proofs.Common.{◌≡◌, ℕ, ◌+◌, ◌-◌, ◌≤◌, Bool, true, false, List, [], ◌∷◌, ◌++◌, drop, length, map, min, take, refl, sym, ap, ◌∙◌, subst, append_assoc, arith, inl, inr, length-drop}
 use Rattle.std.specs.Prelude.{◌==◌}
-use Rattle.std.specs.List.{onto_first, slice_split}
+use Rattle.std.specs.List.{concat, onto_first, slice_split}
 use Rattle.std.proofs.lemmas.Bool.{cases_lt, eqb-true}
 use Rattle.std.proofs.lemmas.List.{drop_all, take_all}
 use Rattle.std.proofs.Math.Nat.{min-eq_left, min-eq_right}
 use Rattle.std.proofs.Math.Seq.{take-nil}
 use Rattle.promql_token.specs.declared.lexeme.Lexeme.{Lexeme}
 use Rattle.promql_text.specs.Texts.{Text, code}
-use Rattle.promql_token.specs.Vocabulary.{concat_texts, is_line_end}
+use Rattle.promql_token.specs.Vocabulary.{is_line_end}
 use Rattle.promql_formatter.specs.Comments.{gaps, line_comment}
 use Rattle.promql_formatter.specs.CommentScans.{scan}
 
@@ -16,7 +16,7 @@ abbrev pub lines : Text → List Text
 lines = slice_split is_line_end
 
 abbrev pub all : List Text → Text
-all ls = concat_texts (map line_comment ls)
+all ls = concat (map line_comment ls)
 
 -- the same, of lines of which the first is inside a comment
 abbrev pub inside : List Text → Text
@@ -55,7 +55,7 @@ scanned (b ∷ bs) =
 
 -- the comments of all gaps
 abbrev pub in_gaps : List Text → Text
-in_gaps gs = concat_texts (map (λ gap. concat_texts (map line_comment (lines gap))) gs)
+in_gaps gs = concat (map (λ gap. concat (map line_comment (lines gap))) gs)
 
 -- ---- a place past every text is its end
 

@@ -1,9 +1,9 @@
 //! The comments of a text: docs/reference/formatting.md, "Comments".
 
 ghost use Rattle.std.specs.Prelude.{◌≡◌, ◌+◌, ◌-◌, ◌++◌, ◌∷◌, IfOk, drop, is_ok, map, take};
-ghost use Rattle.std.specs.List.{slice_split};
+ghost use Rattle.std.specs.List.{concat, slice_split};
 ghost use Rattle.promql_token.specs.Lexing.{items};
-ghost use Rattle.promql_token.specs.Vocabulary.{concat_texts, is_line_end};
+ghost use Rattle.promql_token.specs.Vocabulary.{is_line_end};
 ghost use Rattle.promql_text.specs.Texts.{Text};
 ghost use Rattle.promql_formatter.specs.CommentScans.{scan};
 ghost use Rattle.promql_formatter.specs.Comments.{comment_lines, line_comment};
@@ -52,7 +52,7 @@ fn push_byte(out: &mut Vec<u8>, inside: bool, byte: u8) -> Result<bool, AllocErr
 /// Appends the comments that are between two tokens.
 fn push_comments(out: &mut Vec<u8>, gap: &[u8]) -> Result<(), AllocError>
     ensures { IfOk result (λ _. out.new.items
-        ≡ out.old.items ++ concat_texts (map line_comment (slice_split is_line_end gap.now))) }
+        ≡ out.old.items ++ concat (map line_comment (slice_split is_line_end gap.now))) }
 {
     let mut inside = false;
     for byte in gap {

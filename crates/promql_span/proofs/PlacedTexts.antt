@@ -6,7 +6,8 @@ use Rattle.promql_text.specs.Texts.{Text}
 use Rattle.promql_token.specs.declared.fault.LexFault.{LexFault}
 use Rattle.promql_token.specs.declared.lexeme.Lexeme.{Lexeme}
 use Rattle.promql_token.specs.declared.state.State.{State}
-use Rattle.promql_token.specs.Cursor.{is_before_end, up_to_fault}
+use Rattle.std.specs.Result.{ok_prefix}
+use Rattle.promql_token.specs.Cursor.{is_before_end}
 use Rattle.promql_token.specs.Lexing.{ScannedText, Found, cut, found, goes_on, item, len_of, lex, place_items, result_texts, slice_texts, start, state_after_scan, text_at}
 use Rattle.promql_token.proofs.one_reading.Spans.{spans, stands}
 use Rattle.promql_token.proofs.one_reading.Steps.{cut_is, found_fits}
@@ -17,7 +18,7 @@ use Rattle.promql_span.specs.TokensLeft.{up_to_end}
 use Rattle.promql_span.proofs.OrderedTokens.{placed_is}
 
 abbrev texts_of : List Found → List (ℕ × Text)
-texts_of fs = filter is_before_end (up_to_fault (map (λ f. f.scanned_text) fs))
+texts_of fs = filter is_before_end (ok_prefix (map (λ f. f.scanned_text) fs))
 
 first_text : (s : Text) (at g : ℕ) (w : ScannedText) (fs : List Found)
     → ((id : ℕ) (t : Text) → w ≡ Ok (id, t) → t ≡ take (length t) (drop g (drop at s)))
@@ -64,7 +65,7 @@ pieces_placed s = all_texts s (cut start s) start 0 (omega arith) refl ∙ ap (s
 
 -- ---- the token list
 
-up_to_none : (ts : List (ℕ × Text)) → up_to_fault (map (λ t. Ok t) ts) ≡ ts
+up_to_none : (ts : List (ℕ × Text)) → ok_prefix (map (λ t. Ok t) ts) ≡ ts
 up_to_none [] = refl
 up_to_none (t ∷ ts) = ap (λ l. t ∷ l) (up_to_none ts)
 
@@ -72,7 +73,7 @@ tokens_of : (s : Text) (r : Result (List Lexeme) LexFault) (ts : List (ℕ × Te
 tokens_of s (Ok xs) ts is list =
     let same : slice_texts s xs ≡ ts = cc in
     let all = (spans s xs is).1 in
-    ap (filter is_before_end) (sym (ap up_to_fault all ∙ up_to_none (slice_texts s xs) ∙ same)) ∙ pieces_placed s
+    ap (filter is_before_end) (sym (ap ok_prefix all ∙ up_to_none (slice_texts s xs) ∙ same)) ∙ pieces_placed s
 tokens_of s (Err f) ts is list = cc
 
 pub tokens_placed : TokensArePlaced

@@ -1,9 +1,10 @@
 //! Laws of spans.
 
 ghost use Rattle.std.specs.Prelude.{◌≡◌, ◌≤◌, filter, length, List, Ok, ℕ};
+ghost use Rattle.std.specs.Result.{ok_prefix};
 ghost use Rattle.promql_text.specs.Equalities.{ClonesKeep, HashesAlike, IsSameBy};
 ghost use Rattle.promql_text.specs.Texts.{Text};
-ghost use Rattle.promql_token.specs.Cursor.{is_before_end, up_to_fault};
+ghost use Rattle.promql_token.specs.Cursor.{is_before_end};
 ghost use Rattle.promql_token.specs.Lexing.{pieces, slice_texts, start, tokens};
 ghost use Rattle.promql_span.specs.PlacedTokens.{placed_tokens};
 ghost use Rattle.promql_span.specs.declared.location.Location.{Location};
@@ -33,6 +34,6 @@ pub fn tokens_are_placed()
     ensures whole { (s : Text) (ts : List (ℕ × Text)) → tokens s ≡ Ok ts
         → filter is_before_end ts ≡ slice_texts s (placed_tokens s) }
     ensures pieces { (s : Text)
-        → filter is_before_end (up_to_fault (pieces start s)) ≡ slice_texts s (placed_tokens s) }
+        → filter is_before_end (ok_prefix (pieces start s)) ≡ slice_texts s (placed_tokens s) }
     ensures few { (s : Text) → length (placed_tokens s) ≤ length s }
 {}

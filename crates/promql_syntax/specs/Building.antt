@@ -3,7 +3,8 @@
 use Rattle.std.specs.Prelude.{◌==◌, if◌then◌else◌, Option, Some, None, []}
 use Rattle.std.specs.Option.{option_map_or}
 use Rattle.promql_text.specs.Texts.{Text}
-use Rattle.promql_text.specs.Values.{from_nanos}
+use Rattle.promql_text.specs.Numbers.{seconds_of}
+use Rattle.promql_text.specs.declared.number.Number.TheVariants.{Finite}
 use Rattle.promql_token.specs.declared.ids.TheConstants.{T_SUB}
 use Rattle.promql_grammar.specs.GrammarParts as part
 use Rattle.promql_grammar.specs.Grammar as grammar
@@ -46,7 +47,7 @@ build_postfix t (part.mode smoothed text) = from_verdict (mode_given t (if smoot
 abbrev mutual
   pub build : grammar.Derivation → Asking tree.Tree
   build (grammar.number text) = known (number_value text) giving λ n. gives (tree.number n)
-  build (grammar.duration text) = known (duration_value text) giving λ n. gives (tree.number (from_nanos n))
+  build (grammar.duration text) = known (duration_value text) giving λ n. gives (tree.number (Finite (seconds_of n)))
   build (grammar.string text) = known (string_value text) giving λ s. gives (tree.string s)
   build (grammar.selector k text b) = option_map_or braces_value b (gives (plain_matchers [] [])) giving λ cs. selector_tree (Some text) cs
   build (grammar.nameless b) = braces_value b giving λ cs. selector_tree None cs

@@ -1,19 +1,18 @@
 -- Which token w may begin at a place, before the text r (docs/reference/tokens.md, "Outside", "In braces",
 -- "In brackets").
-use Rattle.std.specs.Prelude.{◌≡◌, ◌⊎◌, ◌↔◌, ℕ, zero, suc, ◌<◌, Bool, true, false, not, ◌&&◌, ◌||◌, ◌==◌, List, [], ◌∷◌, ◌++◌, length, slice_index, codes, Ok}
+use Rattle.std.specs.Prelude.{◌≡◌, ◌⊎◌, ℕ, zero, suc, ◌<◌, Bool, true, false, not, ◌&&◌, ◌||◌, ◌==◌, List, [], ◌∷◌, ◌++◌, length, slice_index, codes}
 use Rattle.std.specs.Char.{is_ascii_digit}
 use Rattle.std.specs.List.{list_all, list_any}
 use Rattle.promql_token.specs.declared.class.Class.{Class}
 use Rattle.promql_token.specs.declared.class.Class.TheVariants as class
-use Rattle.promql_token.specs.declared.ids.TheConstants.{T_ADD, T_AT, T_COLON, T_COMMA, T_DIV, T_DURATION, T_EOF, T_EQL, T_EQLC, T_EQL_REGEX, T_GTE, T_GTR, T_LEFT_BRACE, T_LEFT_BRACKET, T_LEFT_PAREN, T_LSS, T_LTE, T_MOD, T_MUL, T_NEQ, T_NEQ_REGEX, T_NUMBER, T_POW, T_RIGHT_BRACE, T_RIGHT_BRACKET, T_RIGHT_PAREN, T_STRING, T_SUB}
+use Rattle.promql_token.specs.declared.ids.TheConstants.{T_ADD, T_AT, T_COLON, T_COMMA, T_DIV, T_DURATION, T_EQL, T_EQLC, T_EQL_REGEX, T_GTE, T_GTR, T_LEFT_BRACE, T_LEFT_BRACKET, T_LEFT_PAREN, T_LSS, T_LTE, T_MOD, T_MUL, T_NEQ, T_NEQ_REGEX, T_NUMBER, T_POW, T_RIGHT_BRACE, T_RIGHT_BRACKET, T_RIGHT_PAREN, T_STRING, T_SUB}
 use Rattle.promql_token.specs.declared.state.Bracket.TheVariants as bracket
 use Rattle.promql_token.specs.declared.state.Mode.{Mode}
 use Rattle.promql_token.specs.declared.state.Mode.TheVariants as mode
-use Rattle.promql_token.specs.declared.state.State.{State}
 use Rattle.promql_text.specs.Texts.{Text, code}
 use Rattle.promql_token.specs.Classes.{is_in, is_label}
-use Rattle.promql_token.specs.TokenScanning.{scan_token}
-use Rattle.promql_token.specs.Vocabulary.{are_digits, braces_id, is_exponent, is_part, is_sign, is_spelling, is_unit, is_word, concat_texts, next, parts_text, word_id}
+use Rattle.promql_token.specs.Vocabulary.{are_digits, braces_id, is_exponent, is_part, is_sign, is_spelling, is_unit, is_word, next, parts_text, word_id}
+use Rattle.std.specs.List.{concat}
 
 -- ---- punctuators
 
@@ -98,7 +97,7 @@ has_escapes quote = quote == code "\"" || quote == code "'"
 abbrev pub IsBody : ℕ → Text → Type 0
 IsBody quote body =
     (((quote == code "`") ≡ true) × (list_all (λ b. not (b == code "`")) body ≡ true))
-    ⊎ ((has_escapes quote ≡ true) × (ps : List Text) × (list_all (is_spelling quote) ps ≡ true) × (body ≡ concat_texts ps))
+    ⊎ ((has_escapes quote ≡ true) × (ps : List Text) × (list_all (is_spelling quote) ps ≡ true) × (body ≡ concat ps))
 
 abbrev pub IsString : ℕ → Text → Type 0
 IsString id w = (id ≡ T_STRING) × (quote : ℕ) × (body : Text) × IsBody quote body × (w ≡ quote ∷ (body ++ quote ∷ []))
@@ -110,7 +109,3 @@ abbrev pub MayBegin : Mode → ℕ → ℕ → Text → Text → Type 0
 MayBegin mode.Outside depth id w r = IsOneOf (punctuators mode.Outside depth) id w r ⊎ (IsWord id w r ⊎ (IsNumeral id w r ⊎ IsString id w))
 MayBegin mode.Braces depth id w r = IsOneOf (punctuators mode.Braces depth) id w r ⊎ (IsName id w r ⊎ IsString id w)
 MayBegin (mode.Brackets inside) depth id w r = IsOneOf (punctuators (mode.Brackets inside) depth) id w r ⊎ ((is_ascii_digit (next w) ≡ true) × IsNumeral id w r)
-
--- what a text begins with in a state is a token exactly if it may begin there
-abbrev pub Begins : Type 0
-Begins = (state : State) (id : ℕ) (w r : Text) → ((scan_token state (w ++ r) ≡ Ok (id, length w)) × ((id == T_EOF) ≡ false)) ↔ MayBegin state.mode state.depth id w r

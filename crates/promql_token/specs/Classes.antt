@@ -9,18 +9,12 @@ use Rattle.promql_token.specs.declared.class.Class.TheVariants as class
 abbrev pub is_letter : ℕ → Bool
 is_letter b = is_ascii_alphabetic b || b == code "_"
 
-abbrev pub is_name_byte : ℕ → Bool
-is_name_byte b = is_ascii_alphanumeric b || b == code "_"
-
-abbrev pub is_word_byte : ℕ → Bool
-is_word_byte b = is_name_byte b || b == code ":"
-
 abbrev pub is_in : Class → ℕ → Bool
 is_in class.White b = is_ascii_whitespace b
 is_in class.Digit b = is_ascii_digit b
 is_in class.HexDigit b = is_ascii_hexdigit b
-is_in class.Name b = is_name_byte b
-is_in class.Word b = is_word_byte b
+is_in class.Name b = is_ascii_alphanumeric b || b == code "_"
+is_in class.Word b = (is_ascii_alphanumeric b || b == code "_") || b == code ":"
 
 -- the first place from `at` on whose byte is not of the class
 abbrev pub end_of_run : Class → Text → ℕ → ℕ

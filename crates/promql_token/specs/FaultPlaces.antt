@@ -1,6 +1,6 @@
 -- Which fault a text has: u is what comes before the fault's place, back to the trivia, and v what begins there
 -- (docs/reference/tokens.md, "Faults").
-use Rattle.std.specs.Prelude.{◌≡◌, ◌↔◌, ℕ, zero, suc, ◌<◌, Bool, true, false, ◌||◌, ◌==◌, List, [], ◌∷◌, ◌++◌, length, codes, Err}
+use Rattle.std.specs.Prelude.{◌≡◌, ℕ, zero, suc, ◌<◌, Bool, true, false, ◌||◌, ◌==◌, List, [], ◌∷◌, ◌++◌, length, codes}
 use Rattle.std.specs.Char.{is_ascii_digit}
 use Rattle.std.specs.List.{list_all}
 use Rattle.promql_token.specs.declared.class.Class.TheVariants as class
@@ -9,13 +9,12 @@ use Rattle.promql_token.specs.declared.fault.LexFaultKind.TheVariants.{UnclosedP
 use Rattle.promql_token.specs.declared.state.Bracket.TheVariants as bracket
 use Rattle.promql_token.specs.declared.state.Mode.{Mode}
 use Rattle.promql_token.specs.declared.state.Mode.TheVariants as mode
-use Rattle.promql_token.specs.declared.state.State.{State}
 use Rattle.promql_text.specs.Texts.{Text, code}
 use Rattle.promql_token.specs.Begins.{IsBody, IsNumeral, has_escapes}
 use Rattle.promql_token.specs.Classes.{is_in, is_letter}
 use Rattle.promql_token.specs.Ids.{is_one_of}
-use Rattle.promql_token.specs.TokenScanning.{scan_token}
-use Rattle.promql_token.specs.Vocabulary.{begins_numeral, holds_strings, is_escape, is_quote, is_spelling, concat_texts, next}
+use Rattle.promql_token.specs.Vocabulary.{begins_numeral, holds_strings, is_escape, is_quote, is_spelling, next}
+use Rattle.std.specs.List.{concat}
 
 -- v begins with this byte, after the text w
 abbrev pub Meets : Text → ℕ → Text → Text → Type 0
@@ -31,7 +30,7 @@ NoNumeral u v = (u ≡ []) × ((id : ℕ) (w r : Text) → v ≡ w ++ r → IsNu
 
 -- a string through a backslash
 abbrev pub IsEscaping : ℕ → Text → Type 0
-IsEscaping quote u = (has_escapes quote ≡ true) × (ps : List Text) × (list_all (is_spelling quote) ps ≡ true) × (u ≡ quote ∷ (concat_texts ps ++ code "\\" ∷ []))
+IsEscaping quote u = (has_escapes quote ≡ true) × (ps : List Text) × (list_all (is_spelling quote) ps ≡ true) × (u ≡ quote ∷ (concat ps ++ code "\\" ∷ []))
 
 -- with this many parentheses open
 abbrev pub IsFault : LexFaultKind → Mode → ℕ → Text → Text → Type 0
@@ -60,7 +59,3 @@ IsFault BracketInBrackets (mode.Brackets inside) depth u v = Meets [] (code "[")
 IsFault InBrackets (mode.Brackets inside) depth u v = Misses [] (λ b. is_ascii_digit b || is_one_of (codes ":[]") b) u v
 IsFault EndInBrackets (mode.Brackets inside) depth u v = (u ≡ []) × (v ≡ [])
 IsFault kind m depth u v = ⊥
-
--- what a text begins with in a state is a fault exactly if it has this fault there
-abbrev pub Faults : Type 0
-Faults = (state : State) (kind : LexFaultKind) (u v : Text) → (scan_token state (u ++ v) ≡ Err (kind, length u)) ↔ IsFault kind state.mode state.depth u v

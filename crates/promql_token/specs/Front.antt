@@ -1,5 +1,7 @@
 -- A token at the front of a text. Private: nothing rests on believing it.
 use Rattle.std.specs.Prelude.{◌≡◌, ◌≢◌, ℕ, Bool, ◌||◌, ◌==◌, List, drop, Ok}
+use Rattle.std.specs.List.{list_any}
+use Rattle.std.specs.Result.{is_err, ok_prefix}
 use Rattle.std.specs.Char.{is_ascii_whitespace}
 use Rattle.promql_token.specs.declared.cursor.Cursor as code
 use Rattle.promql_token.specs.declared.ids.TheConstants.{T_EOF}
@@ -21,6 +23,14 @@ pub record IsFront (state : State) (z : Text) (id len : ℕ) : Type 0 where
 pub record IsFrontWord (state : State) (z : Text) (id len : ℕ) : Type 0 where
   pub front : IsFront state z id len
   pub stays : after state id ≡ state
+
+-- the tokens up to a fault
+abbrev pub up_to_fault : List ScannedText → List (ℕ × Text)
+up_to_fault = ok_prefix
+
+-- whether there is a fault
+abbrev pub has_fault : List ScannedText → Bool
+has_fault = list_any is_err
 
 -- the pieces that are to come
 abbrev pub pieces_left : code.Cursor → List ScannedText

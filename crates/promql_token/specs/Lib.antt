@@ -20,7 +20,6 @@ pub mod TokenTables
 pub mod TokenSpelling
 pub mod States
 pub mod TokenLists
-pub mod Tokens
 pub mod Vocabulary
 pub mod WordCases
 pub mod WordRanks

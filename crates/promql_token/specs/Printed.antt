@@ -9,12 +9,13 @@ use Rattle.promql_text.specs.Texts.{Text, code}
 use Rattle.promql_token.specs.Laws.{stops_numeral}
 use Rattle.promql_token.specs.Lexing.{pieces}
 use Rattle.promql_token.specs.TokenScanning.{is_quote, after}
-pub use Rattle.promql_token.specs.Vocabulary.{are_digits, holds_strings, is_part, is_spelling, concat_texts, parts_text}
+pub use Rattle.promql_token.specs.Vocabulary.{are_digits, holds_strings, is_part, is_spelling, parts_text}
+use Rattle.std.specs.List.{concat}
 
 -- ---- strings
 
 abbrev pub quote_parts : ℕ → List Text → Text
-quote_parts quote ps = quote ∷ (concat_texts ps ++ quote ∷ [])
+quote_parts quote ps = quote ∷ (concat ps ++ quote ∷ [])
 
 -- a string of such spellings is a token before any text
 abbrev pub JoinsString : Type 0

@@ -1,6 +1,6 @@
 -- The one way in which a text is trivia and tokens, to its end or to a fault (docs/reference/tokens.md,
 -- "The token list of a text").
-use Rattle.std.specs.Prelude.{◌≡◌, ◌↔◌, ℕ, ◌+◌, List, [], ◌∷◌, ◌++◌, length, map, Result, Ok, Err}
+use Rattle.std.specs.Prelude.{◌≡◌, ℕ, ◌+◌, List, [], ◌∷◌, ◌++◌, length, Result, Ok, Err}
 use Rattle.promql_token.specs.declared.fault.LexFault.{LexFault}
 use Rattle.promql_token.specs.declared.ids.TheConstants.{T_EOF}
 use Rattle.promql_token.specs.declared.lexeme.Lexeme.{Lexeme}
@@ -10,7 +10,7 @@ use Rattle.promql_text.specs.Texts.{Text}
 use Rattle.promql_token.specs.Begins.{MayBegin}
 use Rattle.promql_token.specs.FaultPlaces.{IsFault}
 use Rattle.promql_token.specs.Trivia.{IsTriviaIn}
-use Rattle.promql_token.specs.Lexing.{items, lex, fault_char, start, tokens, pieces}
+use Rattle.promql_token.specs.Lexing.{fault_char}
 use Rattle.promql_token.specs.States.{after_trivia, mode_at, state_at}
 
 -- a trivia, and the id and the text of the token after it
@@ -51,19 +51,3 @@ to_end s ts = places 0 ts ++ record { id = T_EOF; start = length s; len = 0 } �
 abbrev pub IsLexed : Text → Result (List Lexeme) LexFault → Type 0
 IsLexed s (Ok xs) = (ts : List Step) × IsRead IsEnd [] s ts × (xs ≡ to_end s ts)
 IsLexed s (Err f) = (ts : List Step) × IsRead (EndsIn f (length s)) [] s ts
-
--- a text has a token list, or a fault, exactly if it is read so
-abbrev pub OnlyTokens : Type 0
-OnlyTokens = (s : Text) (r : Result (List Lexeme) LexFault) → (lex s ≡ r) ↔ IsLexed s r
-
--- by the steps of a text: the items of a lexer, which yields the tokens and then the fault; the ids and texts of the tokens, or the fault;
--- and what a cursor gives from the start on
-abbrev pub OnlySteps : Type 0
-OnlySteps =
-    (s : Text) (ts : List Step)
-    → (IsRead IsEnd [] s ts
-    → (items s ≡ map (λ x. Ok x) (to_end s ts)) × (tokens s ≡ Ok (map (λ t. (t.1, t.2)) ts ++ (T_EOF, []) ∷ []))
-    × (pieces start s ≡ map (λ t. Ok (t.1, t.2)) ts ++ Ok (T_EOF, []) ∷ []))
-    × ((f : LexFault) → IsRead (EndsIn f (length s)) [] s ts
-    → (items s ≡ map (λ x. Ok x) (places 0 ts) ++ Err f ∷ []) × (tokens s ≡ Err f)
-    × ((n : ℕ) × (pieces start s ≡ map (λ t. Ok (t.1, t.2)) ts ++ Err (f.kind, n, f.ch) ∷ [])))

@@ -1,13 +1,14 @@
 -- Words for the parts of tokens (docs/reference/tokens.md, "Outside", "Numerals", "Strings").
 use Rattle.std.specs.Prelude.{ℕ, Bool, true, false, not, ◌&&◌, ◌||◌, if◌then◌else◌, ◌==◌, List, [], ◌∷◌, ◌++◌, length, slice_index, codes}
 use Rattle.std.specs.Char.{is_ascii_digit}
-use Rattle.std.specs.List.{concat, list_all, list_any}
+use Rattle.std.specs.List.{list_all, list_any}
 use Rattle.std.specs.Option.{unwrap_or}
 use Rattle.std.specs.Str.{str_eq_ignore_ascii_case}
 use Rattle.promql_token.specs.declared.class.Class.TheVariants as class
 use Rattle.promql_token.specs.declared.ids.TheConstants.{T_FILL, T_FILL_LEFT, T_FILL_RIGHT, T_IDENTIFIER, T_LOR, T_METRIC_IDENTIFIER}
 use Rattle.promql_token.specs.declared.state.Mode.{Mode}
 use Rattle.promql_token.specs.declared.state.Mode.TheVariants as mode
+pub use Rattle.promql_text.specs.Quoting.{is_quote}
 use Rattle.promql_text.specs.Texts.{Text, code}
 use Rattle.promql_token.specs.Classes.{is_letter, end_of_run}
 use Rattle.promql_token.specs.Ids.{keyword_in_any_case}
@@ -79,9 +80,6 @@ holds_strings mode.Outside = true
 holds_strings mode.Braces = true
 holds_strings (mode.Brackets inside) = false
 
-abbrev pub is_quote : ℕ → Bool
-is_quote b = b == code "\"" || b == code "'" || b == code "`"
-
 -- what may follow a backslash between these quotes
 abbrev pub is_escape : ℕ → ℕ → Bool
 is_escape quote b = b == quote || b == code "\\" || list_any (λ k. b == k) (codes "abfnrtv01234567xuU")
@@ -90,6 +88,3 @@ is_escape quote b = b == quote || b == code "\\" || list_any (λ k. b == k) (cod
 abbrev pub is_spelling : ℕ → Text → Bool
 is_spelling quote p =
     list_all (λ b. not (b == quote) && not (b == code "\\")) p || (length p == 2 && slice_index p 0 == code "\\" && is_escape quote (slice_index p 1))
-
-abbrev pub concat_texts : List Text → Text
-concat_texts = concat

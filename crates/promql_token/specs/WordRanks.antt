@@ -1,8 +1,16 @@
 -- How a byte is to names and words. Private: nothing rests on believing it.
-use Rattle.std.specs.Prelude.{ℕ, if◌then◌else◌, ◌==◌}
+use Rattle.std.specs.Prelude.{ℕ, Bool, if◌then◌else◌, ◌==◌}
 use Rattle.std.specs.Char.{is_ascii_digit}
 use Rattle.promql_text.specs.Texts.{code}
-use Rattle.promql_token.specs.Classes.{is_letter}
+use Rattle.promql_token.specs.declared.class.Class.TheVariants as class
+use Rattle.promql_token.specs.Classes.{is_in, is_letter}
+
+-- the bytes of names, and those of words
+abbrev pub is_name_byte : ℕ → Bool
+is_name_byte = is_in class.Name
+
+abbrev pub is_word_byte : ℕ → Bool
+is_word_byte = is_in class.Word
 
 -- 3 for the bytes that begin names, 2 for the digits, which names have too, 1 for the colon, which words have too, and 0 for every other byte
 abbrev pub word_rank : ℕ → ℕ

@@ -3,7 +3,7 @@
 ghost use Rattle.std.specs.Prelude.{◌≡◌, ◌≢◌, ◌<◌, ◌≤◌, length, slice_index, true};
 ghost use Rattle.std.specs.Prelude.{get_or};
 ghost use Rattle.promql_token.specs.Classes as spec;
-ghost use Rattle.promql_token.specs.WordRanks.{word_rank};
+ghost use Rattle.promql_token.specs.WordRanks.{is_name_byte, is_word_byte, word_rank};
 ghost use Rattle.promql_token.specs.declared.class.Class.TheVariants.{Name};
 
 /// Bytes that go together.
@@ -61,13 +61,13 @@ pub fn is_letter(b: u8) -> bool
 }
 
 fn is_name_byte(b: u8) -> bool
-    ensures { result ≡ spec.is_name_byte b }
+    ensures { result ≡ is_name_byte b }
 {
     word_rank(b) >= 2
 }
 
 fn is_word_byte(b: u8) -> bool
-    ensures { result ≡ spec.is_word_byte b }
+    ensures { result ≡ is_word_byte b }
 {
     word_rank(b) != 0
 }

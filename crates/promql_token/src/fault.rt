@@ -1,6 +1,8 @@
 //! Lexical faults and their messages.
 
-ghost use Rattle.std.specs.Prelude.{◌≡◌, map};
+ghost use Rattle.std.specs.Prelude.{◌≡◌, [], map};
+ghost use Rattle.std.specs.Option.{unwrap_or};
+ghost use Rattle.promql_text.specs.Texts.{lookup};
 ghost use Rattle.promql_token.specs.LexicalFaults as spec;
 
 use std::alloc::{AllocError, AllocFailed};
@@ -155,7 +157,8 @@ impl LexFaultKind {
 }
 
 fn words_in(table: &[(LexFaultKind, &'static str)], kind: LexFaultKind) -> &'static str
-    ensures { result.now ≡ spec.message_in (map (λ row. (row.0, row.1.now)) table.now) kind }
+    ensures { result.now ≡ unwrap_or (lookup ⟦<LexFaultKind as PartialEq>⟧.eq
+        (map (λ row. (row.0, row.1.now)) table.now) kind) [] }
 {
     for row in table {
         if row.0 == kind {

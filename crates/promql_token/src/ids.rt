@@ -1,6 +1,7 @@
 //! The ids of tokens, their texts, and the words that are keywords.
 
-ghost use Rattle.std.specs.Prelude.{◌≡◌, ◌==◌, ◌≤◌, filter, length, map, slice_index};
+ghost use Rattle.std.specs.Prelude.{◌≡◌, ◌==◌, ◌≤◌, codes, filter, length, map, slice_get, slice_index};
+ghost use Rattle.std.specs.Option.{unwrap_or};
 ghost use Rattle.std.specs.List.{slice_range};
 ghost use Rattle.std.specs.Char.{to_ascii_lowercase};
 ghost use Rattle.std.specs.Str.{str_eq_ignore_ascii_case};
@@ -275,7 +276,8 @@ const TEXTS: [(TokenId, &str); 86] = [
 ];
 
 fn text_in(table: &[(TokenId, &'static str)], id: TokenId) -> &'static str
-    ensures { result.now ≡ spec.text_in (map (λ row. row.1.now) table.now) id }
+    ensures { result.now ≡ unwrap_or (slice_get (map (λ row. row.1.now) table.now) id)
+        (codes "unknown token") }
 {
     let place = id as usize;
     if place < table.len() {

@@ -5,7 +5,8 @@ use Rattle.std.specs.List.{prefix_len}
 use Rattle.std.proofs.lemmas.Bool.{eq-eqb}
 use Rattle.promql_text.specs.Quoting.{quoted_text}
 use Rattle.promql_text.specs.Texts.{Text}
-use Rattle.promql_token.specs.Classes.{is_in, is_label, is_letter, is_name_byte, end_of_run}
+use Rattle.promql_token.specs.Classes.{is_in, is_label, is_letter, end_of_run}
+use Rattle.promql_token.specs.WordRanks.{is_name_byte}
 use Rattle.promql_token.specs.Ids.{keyword_in_any_case}
 use Rattle.promql_token.specs.Laws.{is_word}
 use Rattle.promql_token.specs.TokenScanning.{after, opens, word_id}

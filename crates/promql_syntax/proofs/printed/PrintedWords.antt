@@ -9,7 +9,8 @@ use Rattle.std.proofs.lemmas.Bool.Decides.{nat_tests}
 use Rattle.std.proofs.lemmas.Slice.Eq.{bytes_eq-Decides}
 use Rattle.promql_text.specs.Quoting.{quoted_text}
 use Rattle.promql_text.specs.Texts.{Text}
-use Rattle.promql_token.specs.Classes.{is_in, is_label, is_letter, is_name_byte, end_of_run}
+use Rattle.promql_token.specs.Classes.{is_in, is_label, is_letter, end_of_run}
+use Rattle.promql_token.specs.WordRanks.{is_name_byte}
 use Rattle.promql_token.specs.Ids.{keyword_in_any_case, keywords, lookup}
 use Rattle.promql_token.specs.TokenScanning.{is_fill, name_id}
 use Rattle.promql_token.specs.declared.class.Class.TheVariants as class

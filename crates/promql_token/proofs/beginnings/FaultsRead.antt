@@ -20,7 +20,8 @@ use Rattle.promql_token.specs.FaultPlaces.{IsEscaping, IsFault, Meets, Misses, N
 use Rattle.promql_token.specs.Ids.{is_one_of}
 use Rattle.promql_token.specs.Vocabulary.{next}
 use Rattle.promql_token.specs.TokenScanning.{Scanned, begins_numeral, in_braces, in_brackets, is_quote, numeral, outside, scan_token, punctuator, string, word}
-use Rattle.promql_token.specs.Printed.{holds_strings, concat_texts}
+use Rattle.promql_token.specs.Printed.{holds_strings}
+use Rattle.std.specs.List.{concat}
 use Rattle.promql_token.proofs.cursors.TestsAndCounts.{not_one, not_zero, or_false}
 use Rattle.promql_token.proofs.values.Numerals.{NumeralSays, numeral_says}
 use Rattle.promql_token.proofs.beginnings.ReadBeginnings.{digit_first, string_first}
@@ -144,7 +145,7 @@ string_piece m depth b y holds quote = string_first m depth b y holds quote
 
 escaping_piece : (m : Mode) (depth quote : ℕ) (u v : Text) → holds_strings m ≡ true → IsEscaping quote u → scan_token (at_state m depth) (u ++ v) ≡ string (u ++ v)
 escaping_piece m depth quote u v holds h =
-    subst (λ u. scan_token (at_state m depth) (u ++ v) ≡ string (u ++ v)) (sym h.3) (string_piece m depth quote ((concat_texts h.1 ++ 92 ∷ []) ++ v) holds (escaping_quote quote h.0))
+    subst (λ u. scan_token (at_state m depth) (u ++ v) ≡ string (u ++ v)) (sym h.3) (string_piece m depth quote ((concat h.1 ++ 92 ∷ []) ++ v) holds (escaping_quote quote h.0))
 
 -- ---- in braces
 

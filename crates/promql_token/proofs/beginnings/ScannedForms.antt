@@ -1,14 +1,15 @@
 -- What a text begins with in a state, in both directions.
 use Rattle.std.proofs.Common.{◌≡◌, ℕ, zero, suc, ◌<◌, false, [], ◌∷◌, ◌++◌, length, take, drop, Ok, Err, refl, subst, arith}
-use Rattle.std.specs.Prelude.{◌==◌}
+use Rattle.std.specs.Prelude.{◌==◌, ◌↔◌}
 use Rattle.std.proofs.Math.Seq.{take-append_seam, drop-append_seam}
 use Rattle.std.proofs.lemmas.Bool.{cond_both}
+use Rattle.promql_token.specs.declared.fault.LexFaultKind.{LexFaultKind}
 use Rattle.promql_token.specs.declared.state.Mode.{Mode}
 use Rattle.promql_token.specs.declared.state.Mode.TheVariants as mode
 use Rattle.promql_token.specs.declared.state.State.{State}
 use Rattle.promql_text.specs.Texts.{Text}
-use Rattle.promql_token.specs.Begins.{Begins, MayBegin}
-use Rattle.promql_token.specs.FaultPlaces.{Faults, IsFault}
+use Rattle.promql_token.specs.Begins.{MayBegin}
+use Rattle.promql_token.specs.FaultPlaces.{IsFault}
 use Rattle.promql_token.specs.TokenScanning.{Scanned, scan_in_mode, end_in, scan_token}
 use Rattle.promql_token.proofs.cursors.TestsAndCounts.{not_zero}
 use Rattle.promql_token.proofs.beginnings.FaultsRead.{fault_read}
@@ -52,10 +53,10 @@ begins_piece state id (b ∷ w) r h =
     let read = begun_read state.mode state.depth id (b ∷ w) r h in
     (read.0, (subst (Inner state.depth) read.0 (begun_inner state.mode state.depth z)).0, read.1)
 
-pub begins : Begins
+pub begins : (state : State) (id : ℕ) (w r : Text) → ((scan_token state (w ++ r) ≡ Ok (id, length w)) × ((id == T_EOF) ≡ false)) ↔ MayBegin state.mode state.depth id w r
 begins state id w r = (λ h. piece_begins state id w r h.0 h.1, λ h. let read = begins_piece state id w r h in (read.0, read.1))
 
-pub faults : Faults
+pub faults : (state : State) (kind : LexFaultKind) (u v : Text) → (scan_token state (u ++ v) ≡ Err (kind, length u)) ↔ IsFault kind state.mode state.depth u v
 faults state kind u v = (
   λ is.
       let m = state.mode in

@@ -12,7 +12,7 @@ use Rattle.promql_text.specs.Texts.{Text}
 use Rattle.promql_token.specs.Trivia.{IsComment, AreBlank, IsTriviaIn}
 use Rattle.promql_token.specs.Vocabulary.{next}
 use Rattle.promql_token.specs.TokenScanning.{trivia_len, trivia_from, is_line_end}
-use Rattle.promql_token.specs.Printed.{concat_texts}
+use Rattle.std.specs.List.{concat}
 use Rattle.promql_token.proofs.cursors.TestsAndCounts.{by_bool}
 use Rattle.promql_token.proofs.one_reading.Ends.{and_left, and_right}
 use Rattle.promql_token.proofs.printed.PrintedForms.{past_front}
@@ -61,13 +61,13 @@ stops_here [] white hash = refl
 stops_here (b ∷ r) white hash =
     ap (λ c. cond c (suc (trivia_from true r)) (cond (is_ascii_whitespace b) (suc (trivia_from false r)) 0)) hash ∙ ap (λ c. cond c (suc (trivia_from false r)) 0) white
 
-blank_passed : (ps : List Text) (r : Text) → AreBlank ps r → is_ascii_whitespace (next r) ≡ false → (next r == 35) ≡ false → trivia_from false (concat_texts ps ++ r) ≡ length (concat_texts ps)
+blank_passed : (ps : List Text) (r : Text) → AreBlank ps r → is_ascii_whitespace (next r) ≡ false → (next r == 35) ≡ false → trivia_from false (concat ps ++ r) ≡ length (concat ps)
 blank_passed [] r h white hash = stops_here r white hash
 blank_passed (p ∷ ps) r h white hash =
-    let rest : Text = concat_texts ps ++ r in
+    let rest : Text = concat ps ++ r in
     let more = blank_passed ps r h.1 white hash in
     let first : trivia_from false (p ++ rest) ≡ length p + trivia_from false rest = ⊎_elim (λ w. all_white p rest w) (λ c. comment_passed p rest c) h.0 in
-    ap (trivia_from false) (append_assoc p (concat_texts ps) r) ∙ first ∙ ap (λ n. length p + n) more ∙ sym (length-append p (concat_texts ps))
+    ap (trivia_from false) (append_assoc p (concat ps) r) ∙ first ∙ ap (λ n. length p + n) more ∙ sym (length-append p (concat ps))
 
 -- a trivia is what is passed
 pub trivia_passed : (m : Mode) (g r : Text) → IsTriviaIn m g r → trivia_len m (g ++ r) ≡ length g
@@ -81,7 +81,7 @@ trivia_passed (mode.Brackets inside) g r h = past_front class.White g r h.0 h.1
 record Blank (z : Text) : Type 0 where
   parts : List Text
   rest : Text
-  is : z ≡ concat_texts parts ++ rest
+  is : z ≡ concat parts ++ rest
   blank : AreBlank parts rest
   white : is_ascii_whitespace (next rest) ≡ false
   hash : (next rest == 35) ≡ false
@@ -109,7 +109,7 @@ comment_first b z hash l =
     record {
       parts = p ∷ k.parts;
       rest = k.rest;
-      is = (λ i. b_is i ∷ closed.3 i) ∙ ap (λ r. 35 ∷ (l.line ++ e ∷ r)) k.is ∙ ap (λ t. 35 ∷ t) (sym (append_assoc l.line (e ∷ []) (concat_texts k.parts ++ k.rest))) ∙ sym (append_assoc p (concat_texts k.parts) k.rest);
+      is = (λ i. b_is i ∷ closed.3 i) ∙ ap (λ r. 35 ∷ (l.line ++ e ∷ r)) k.is ∙ ap (λ t. 35 ∷ t) (sym (append_assoc l.line (e ∷ []) (concat k.parts ++ k.rest))) ∙ sym (append_assoc p (concat k.parts) k.rest);
       blank = (inr (l.line, l.plain, inl (e, closed.2, refl)), k.blank);
       white = k.white;
       hash = k.hash;
@@ -168,6 +168,6 @@ trivia_split m z g r is h =
 
 -- what is passed is a trivia
 pub is_trivia : (m : Mode) (z : Text) → IsTriviaIn m (take (trivia_len m z) z) (drop (trivia_len m z) z)
-is_trivia mode.Outside z = let k = (both z).0 in trivia_split mode.Outside z (concat_texts k.parts) k.rest k.is (k.parts, refl, k.blank, k.white, k.hash)
-is_trivia mode.Braces z = let k = (both z).0 in trivia_split mode.Braces z (concat_texts k.parts) k.rest k.is (k.parts, refl, k.blank, k.white, k.hash)
+is_trivia mode.Outside z = let k = (both z).0 in trivia_split mode.Outside z (concat k.parts) k.rest k.is (k.parts, refl, k.blank, k.white, k.hash)
+is_trivia mode.Braces z = let k = (both z).0 in trivia_split mode.Braces z (concat k.parts) k.rest k.is (k.parts, refl, k.blank, k.white, k.hash)
 is_trivia (mode.Brackets inside) z = let k = white_of z in trivia_split (mode.Brackets inside) z k.white k.rest k.is (k.all, k.stop)

@@ -12,7 +12,8 @@ use Rattle.promql_token.specs.declared.state.Mode.TheVariants as mode
 use Rattle.promql_token.specs.declared.state.State.{State}
 use Rattle.promql_text.specs.Texts.{Text}
 use Rattle.promql_token.specs.declared.cursor.Cursor as code
-use Rattle.promql_token.specs.Cursor.{is_before_end, up_to_fault, tokens_left, tokens_up_to_fault, has_fault, ends_in_fault}
+use Rattle.promql_token.specs.Cursor.{is_before_end, tokens_left, tokens_up_to_fault, ends_in_fault}
+use Rattle.promql_token.specs.Front.{up_to_fault, has_fault}
 use Rattle.promql_token.specs.IsPast.{IsPast}
 use Rattle.promql_token.specs.Lexing.{ScannedText, Found, pieces, found, first, fault_at, item, collect_items, with_front, goes_on, len_of, start, lex, tokens, cut, place_items, slice_texts, result_texts, text_at}
 use Rattle.promql_token.specs.TokenScanning.{after}

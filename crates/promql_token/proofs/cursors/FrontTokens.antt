@@ -14,8 +14,8 @@ use Rattle.promql_token.specs.declared.state.Mode.TheVariants as mode
 use Rattle.promql_token.specs.declared.state.State.{State}
 use Rattle.promql_text.specs.Texts.{Text}
 use Rattle.promql_token.specs.Classes.{is_letter, end_of_run}
-use Rattle.promql_token.specs.Cursor.{has_fault, is_before_end, up_to_fault}
-use Rattle.promql_token.specs.Front.{IsFront, IsFrontWord, begins_trivia}
+use Rattle.promql_token.specs.Cursor.{is_before_end}
+use Rattle.promql_token.specs.Front.{IsFront, IsFrontWord, begins_trivia, has_fault, up_to_fault}
 use Rattle.promql_token.specs.Lexing.{pieces}
 use Rattle.promql_token.specs.TokenScanning.{after, braces_id, in_braces, mode_after_something, outside, scan_in_mode, scan_token, trivia_from, trivia_len, word, word_id, word_in_braces}
 use Rattle.promql_token.proofs.one_reading.Inner.{word_plain, braces_plain, plain_no_end, after_outside, after_in_braces}

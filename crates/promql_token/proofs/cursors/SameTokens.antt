@@ -19,7 +19,6 @@ use Rattle.promql_token.specs.contracts.fault.LexErrorPartialEq.TheImpl as error
 use Rattle.promql_token.specs.contracts.lexeme.LexemePartialEq.TheImpl as lexemes
 use Rattle.promql_token.specs.contracts.token.TokenTypePartialEq.TheImpl as token_types
 use Rattle.promql_token.specs.contracts.token.TokenPartialEq.TheImpl as tokens
-use Rattle.promql_token.specs.Tokens.{id_and_text}
 
 bare_Decides : (a b : LexFaultKind) → Decides (sameb the_type a b) (a ≡ b)
 bare_Decides a b = (same_true the_type (search rules) a b, true_same the_type a b)
@@ -55,7 +54,7 @@ lexeme_Decides a b =
 pub token_type_Decides : IsSameBy (λ id. id) token_types.ghosts.eq
 token_type_Decides a b = Decides-eqb a b
 
-pub token_Decides : IsSameBy id_and_text tokens.ghosts.eq
+pub token_Decides : IsSameBy {Y = ℕ × Text} (λ t. (t.id, string_bytes t.val)) tokens.ghosts.eq
 token_Decides a b =
     Decides-like _
     (λ same i. (same.0 i, same.1 i))

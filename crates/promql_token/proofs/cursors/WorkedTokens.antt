@@ -1,6 +1,6 @@
 -- The worked texts, by computing.
-use Rattle.std.proofs.Common.{◌≡◌, refl, List, Ok}
-use Rattle.std.specs.Prelude.{Result, Err}
+use Rattle.std.proofs.Common.{◌≡◌, refl, List}
+use Rattle.std.specs.Prelude.{Result}
 use Rattle.std.specs.Str.{chars}
 use Rattle.promql_token.specs.Ids.{keyword_in_any_case}
 use Rattle.promql_token.specs.LexicalFaults.{has_char}

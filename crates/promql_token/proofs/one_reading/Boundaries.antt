@@ -1,11 +1,11 @@
 -- Tokens come between characters.
-use Rattle.std.proofs.Common.{ℕ, ◌+◌, length, drop, IsUtf8, Ok, Err, sym, subst, length-take-le}
+use Rattle.std.proofs.Common.{ℕ, ◌+◌, drop, IsUtf8, Ok, Err, sym, subst, length-take-le}
 use Rattle.std.specs.Str.{IsCharBoundary}
 use Rattle.std.proofs.lemmas.List.{drop-drop}
 use Rattle.std.proofs.lemmas.Str.{IsCharBoundary-from_rest, IsUtf8-drop}
 use Rattle.promql_token.specs.declared.state.State.{State}
 use Rattle.promql_text.specs.Texts.{Text}
-use Rattle.promql_token.specs.Lexing.{Found, scanned_text, found, len_of, start}
+use Rattle.promql_token.specs.Lexing.{Found, scanned_text, found, len_of}
 use Rattle.promql_token.specs.TokenScanning.{Scanned, scan_token, trivia_len, after_trivia}
 use Rattle.promql_token.proofs.one_reading.Ends.{PieceEnds, piece_ends}
 use Rattle.promql_token.proofs.one_reading.Places.{Ends, boundary, front, trivia_len_ends}

@@ -1,6 +1,6 @@
 -- The items of a text are the one way to read it.
 use Rattle.std.proofs.Common.{◌≡◌, ℕ, zero, suc, ◌+◌, ◌≤◌, true, false, cond, List, [], ◌∷◌, ◌++◌, length, take, drop, map, Result, Ok, Err, refl, sym, ap, ◌∙◌, subst, inl, inr, ◌⊎◌, ⊎_elim, arith, length-drop, length-append, length-take-le, eqb-true, zero-add}
-use Rattle.std.specs.Prelude.{◌==◌, not}
+use Rattle.std.specs.Prelude.{◌==◌, ◌↔◌, not}
 use Rattle.std.proofs.Math.Seq.{take-append_seam, drop-append_seam, take-length}
 use Rattle.std.proofs.lemmas.Bool.{cond_both}
 use Rattle.std.proofs.lemmas.List.{drop-drop, take-append-drop}
@@ -18,7 +18,7 @@ use Rattle.promql_token.specs.FaultPlaces.{IsFault}
 use Rattle.promql_token.specs.Trivia.{IsTriviaIn}
 use Rattle.promql_token.specs.Lexing.{Found, ScannedText, state_after_scan, collect_items, cut, found, goes_on, items, len_of, lex, place_items, result_texts, fault_char, slice_texts, start, text_at, scanned_text, pieces, tokens, with_front}
 use Rattle.promql_token.specs.TokenScanning.{Scanned, scan_token, after_trivia, after, end_in, trivia_len}
-use Rattle.promql_token.specs.TokenLists.{Step, state_after, IsRead, IsEnd, EndsIn, places, to_end, IsLexed, OnlyTokens, OnlySteps}
+use Rattle.promql_token.specs.TokenLists.{Step, state_after, IsRead, IsEnd, EndsIn, places, to_end, IsLexed}
 use Rattle.promql_token.proofs.beginnings.ScannedForms.{begins_piece, faults, piece_begins}
 use Rattle.promql_token.proofs.cursors.TestsAndCounts.{by_bool}
 use Rattle.promql_token.proofs.one_reading.Ends.{PieceEnds, piece_ends}
@@ -384,7 +384,7 @@ unfolding lex
 lexed_is s (Ok xs) e = ap collect_items (items_to_end s e.0 e.1) ∙ all_tokens (to_end s e.0) ∙ ap (λ xs. Ok xs) (sym e.2)
 lexed_is s (Err f) e = ap collect_items (items_to_fault s f e.0 e.1) ∙ one_fault (places 0 e.0) f
 
-pub only_tokens : OnlyTokens
+pub only_tokens : (s : Text) (r : Result (List Lexeme) LexFault) → (lex s ≡ r) ↔ IsLexed s r
 only_tokens s r = ((λ is. subst (IsLexed s) is (lexed_told s)), lexed_is s r)
 
 -- ---- ids and texts
@@ -423,8 +423,12 @@ pieces_to_fault s ts f read =
     (λ before state z h e. (Err (f.kind, length e.1, f.ch) ∷ [], (length e.1, refl), fault_pieces f (length s) before state z h e)) at_start read in
     (k.1.0, k.2 ∙ ap (λ ws. map (λ t. Ok (t.1, t.2)) ts ++ ws) k.1.1)
 
-pub only_steps : OnlySteps
-only_steps s ts = (
-  (λ read. (items_to_end s ts read, texts_to_end s ts read, pieces_to_end s ts read)),
-  (λ f read. (items_to_fault s f ts read, ap (result_texts s) (lexed_is s (Err f) (ts, read)), pieces_to_fault s ts f read)),
-)
+pub steps_to_end : (s : Text) (ts : List Step) → IsRead IsEnd [] s ts
+    → (items s ≡ map (λ x. Ok x) (to_end s ts)) × (tokens s ≡ Ok (map (λ t. (t.1, t.2)) ts ++ (T_EOF, []) ∷ []))
+    × (pieces start s ≡ map (λ t. Ok (t.1, t.2)) ts ++ Ok (T_EOF, []) ∷ [])
+steps_to_end s ts read = (items_to_end s ts read, texts_to_end s ts read, pieces_to_end s ts read)
+
+pub steps_to_fault : (s : Text) (ts : List Step) (f : LexFault) → IsRead (EndsIn f (length s)) [] s ts
+    → (items s ≡ map (λ x. Ok x) (places 0 ts) ++ Err f ∷ []) × (tokens s ≡ Err f)
+    × ((n : ℕ) × (pieces start s ≡ map (λ t. Ok (t.1, t.2)) ts ++ Err (f.kind, n, f.ch) ∷ []))
+steps_to_fault s ts f read = (items_to_fault s f ts read, ap (result_texts s) (lexed_is s (Err f) (ts, read)), pieces_to_fault s ts f read)

@@ -11,7 +11,7 @@ use Rattle.promql_token.specs.declared.state.Mode.TheVariants as mode
 use Rattle.promql_token.specs.declared.state.State.{State}
 use Rattle.promql_text.specs.Texts.{Text}
 use Rattle.promql_token.specs.Cut.{count_of, is_bound, mode_by, mode_at, state_at, ids_after}
-use Rattle.promql_token.specs.Lexing.{ScannedText, found, scanned_text, state_after_scan, cut, start}
+use Rattle.promql_token.specs.Lexing.{ScannedText, found, scanned_text, state_after_scan, start}
 use Rattle.promql_token.specs.TokenScanning.{Scanned, scan_in_mode, end_in, scan_token, after_trivia, after, depth_after, mode_after, mode_after_something, mode_after_colon, trivia_len}
 use Rattle.promql_token.proofs.cursors.TestsAndCounts.{by_bool}
 use Rattle.promql_token.proofs.one_reading.Inner.{Inner, begun_inner}

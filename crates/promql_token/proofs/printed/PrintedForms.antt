@@ -18,7 +18,8 @@ use Rattle.promql_token.specs.Classes.{is_in, is_letter, end_of_run}
 use Rattle.promql_token.specs.Laws.{parts, stops_numeral}
 use Rattle.promql_token.specs.Lexing.{pieces}
 use Rattle.promql_token.specs.TokenScanning.{Scanned, begins_numeral, is_hex, past_whole, past_point, past_sign, past_exponent, number_end, digits, units, is_quote, is_escape, string, string_from, numeral, outside, in_braces, in_brackets, scan_token, after}
-use Rattle.promql_token.specs.Printed.{holds_strings, is_spelling, concat_texts, quote_parts, JoinsString, holds_numerals, are_digits, decimal, JoinsNumber}
+use Rattle.promql_token.specs.Printed.{holds_strings, is_spelling, quote_parts, JoinsString, holds_numerals, are_digits, decimal, JoinsNumber}
+use Rattle.std.specs.List.{concat}
 use Rattle.promql_token.proofs.cursors.TestsAndCounts.{same_number}
 use Rattle.promql_token.proofs.one_reading.Ends.{and_left, and_right, or_cases}
 use Rattle.promql_token.proofs.printed.Concatenation.{joins}
@@ -64,22 +65,22 @@ pair_is quote (b ∷ c ∷ d ∷ p) z raw is_q h reads = let never = three (leng
     three : (n : ℕ) → (suc (suc (suc n)) == 2) ≡ false
     three n = grind (arith, common_steps)
 
-reads_spellings : (quote : ℕ) (ps : List Text) → (quote == 96) ≡ false → is_quote quote ≡ true → list_all (is_spelling quote) ps ≡ true → Reads quote (concat_texts ps ++ quote ∷ [])
+reads_spellings : (quote : ℕ) (ps : List Text) → (quote == 96) ≡ false → is_quote quote ≡ true → list_all (is_spelling quote) ps ≡ true → Reads quote (concat ps ++ quote ∷ [])
 reads_spellings quote [] raw is_q h = λ at. ap (λ c. cond c (Ok (T_STRING, at + 1)) (string_from quote ((quote == 92) && not (quote == 96)) (at + 1) [])) (same quote)
   where
     same : (n : ℕ) → (n == n) ≡ true
     same n = grind (arith, common_steps)
 reads_spellings quote (p ∷ ps) raw is_q h =
-    let z : Text = concat_texts ps ++ quote ∷ [] in
+    let z : Text = concat ps ++ quote ∷ [] in
     let reads = reads_spellings quote ps raw is_q (and_right (is_spelling quote p) _ h) in
-    subst (Reads quote) (sym (append_assoc p (concat_texts ps) (quote ∷ [])))
+    subst (Reads quote) (sym (append_assoc p (concat ps) (quote ∷ [])))
     (⊎_elim (λ plain. plain_run quote p z raw plain reads) (λ pair. pair_is quote p z raw is_q pair reads)
     (or_cases (list_all (λ b. not (b == quote) && not (b == 92)) p) ((length p == 2) && (get_or p 0 0 == 92) && is_escape quote (get_or p 1 0)) (and_left (is_spelling quote p) _ h)))
 
 string_alone : (quote : ℕ) (ps : List Text) → (quote == 96) ≡ false → is_quote quote ≡ true → list_all (is_spelling quote) ps ≡ true → string (quote_parts quote ps) ≡ Ok (T_STRING, length (quote_parts quote ps))
 unfolding string
 string_alone quote ps raw is_q h =
-    let z : Text = concat_texts ps ++ quote ∷ [] in
+    let z : Text = concat ps ++ quote ∷ [] in
     let same : 1 + length z ≡ suc (length z) = omega arith in
     reads_spellings quote ps raw is_q h 1 ∙ ap (λ n. Ok (T_STRING, n)) same
 
@@ -113,7 +114,7 @@ string_parts (mode.Brackets inside) quote w r holds is_q = absurd (cc)
 
 pub joins_string : JoinsString
 joins_string state quote ps r holds is_q raw h =
-    let w : Text = concat_texts ps ++ quote ∷ [] in
+    let w : Text = concat ps ++ quote ∷ [] in
     joins state (quote ∷ w) r T_STRING (omega arith)
     (string_piece state.mode state.depth quote w (T_STRING, suc (length w)) holds is_q (string_alone quote ps raw is_q h))
     (string_parts state.mode quote w r holds is_q)

@@ -1,9 +1,10 @@
 -- The texts of strings, numbers and durations are tokens before what doesn't go on with them.
-use Rattle.std.proofs.Common.{◌≡◌, ℕ, zero, suc, ◌-◌, ◌*◌, ◌^◌, ◌<◌, Bool, true, false, cond, List, [], ◌∷◌, ◌++◌, length, get_or, map, Ok, refl, sym, ap, ◌∙◌, subst, arith, append_assoc, length-append}
+use Rattle.std.proofs.Common.{◌≡◌, ℕ, zero, suc, ◌-◌, ◌*◌, ◌^◌, ◌<◌, Bool, true, false, cond, List, [], ◌∷◌, ◌++◌, length, get_or, map, Ok, Option, refl, sym, ap, ◌∙◌, subst, arith, append_assoc, length-append}
 use Rattle.std.specs.Prelude.{⊤, ◌/◌, ◌%◌, ◌==◌, ◌||◌, codes, replicate}
 use Rattle.std.specs.Char.{digit_value, is_ascii_digit}
 use Rattle.std.specs.Fmt.{decimal}
 use Rattle.std.specs.List.{list_all}
+use Rattle.std.specs.Option.{option_map_or}
 use Rattle.std.specs.Str.Parse.{AllDigits, digits_value}
 use Rattle.std.proofs.lemmas.Bool.{cond_both, eqb-false, ne_eqb}
 use Rattle.std.proofs.lemmas.Bool.Decides.{nat_tests}
@@ -12,7 +13,8 @@ use Rattle.std.proofs.lemmas.List.Folds.{list_all-append}
 use Rattle.std.proofs.lemmas.Str.Parse.{digit_from_value}
 use Rattle.std.proofs.Math.Nat.{div-le_self, mod-le}
 use Rattle.promql_text.specs.Durations.{duration_of, nanos_of, word_of}
-use Rattle.promql_text.specs.DurationText.{count_text, counts_text, duration_text, fraction_text, short_units, whole_text}
+use Rattle.promql_text.specs.DurationText.{count_text, counts_text, duration_text, fraction_text, whole_text}
+use Rattle.promql_text.specs.DurationReaders.{short_units}
 use Rattle.promql_text.specs.NumberDigits.{exact_text, magnitude_text, pad_zeros}
 use Rattle.promql_text.specs.Numbers.{Exact, IsExact}
 use Rattle.promql_text.specs.Quoting.{escaped_byte, escaped_text, quoted_text}
@@ -32,7 +34,8 @@ use Rattle.promql_token.specs.Laws.{stops_numeral}
 use Rattle.promql_token.specs.Lexing.{pieces}
 use Rattle.promql_token.specs.TokenScanning.{after, word_id}
 use Rattle.promql_token.specs.Printed as printed
-use Rattle.promql_token.specs.Printed.{are_digits, holds_numerals, is_part, is_spelling, concat_texts, parts_text, quote_parts}
+use Rattle.promql_token.specs.Printed.{are_digits, holds_numerals, is_part, is_spelling, parts_text, quote_parts}
+use Rattle.std.specs.List.{concat}
 use Rattle.promql_token.specs.PrintedValues.{JoinsNumberText, JoinsQuoted, JoinsTime, time_id}
 use Rattle.promql_token.proofs.printed.InLongerTexts.{stops}
 use Rattle.promql_token.proofs.cursors.TestsAndCounts.{and_both}
@@ -45,7 +48,7 @@ use Rattle.promql_token.proofs.printed.PrintedForms.{joins_number, joins_string}
 
 escaped_byte_is_spelling : (b : ℕ) → is_spelling 34 (escaped_byte b) ≡ true
 escaped_byte_is_spelling b =
-    let P : Text → Type 0 = λ p. is_spelling 34 p ≡ true in
+    let P : Option ℕ → Type 0 = λ k. is_spelling 34 (option_map_or (λ k. 92 ∷ k ∷ []) k (b ∷ [])) ≡ true in
     cond_both (b == 92) _ _ P (λ _. refl) (λ slash.
     cond_both (b == 34) _ _ P (λ _. refl) (λ quote.
     cond_both (b == 10) _ _ P (λ _. refl) (λ _.
@@ -56,7 +59,7 @@ all_spelled : (s : Text) → list_all (is_spelling 34) (map escaped_byte s) ≡ 
 all_spelled [] = refl
 all_spelled (b ∷ s) = and_both _ _ (escaped_byte_is_spelling b) (all_spelled s)
 
-joined_escapes : (s : Text) → concat_texts (map escaped_byte s) ≡ escaped_text s
+joined_escapes : (s : Text) → concat (map escaped_byte s) ≡ escaped_text s
 joined_escapes [] = refl
 joined_escapes (b ∷ s) = ap (λ z. escaped_byte b ++ z) (joined_escapes s)
 

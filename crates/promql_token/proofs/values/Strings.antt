@@ -12,7 +12,8 @@ use Rattle.promql_token.specs.Begins.{IsBody, IsString, has_escapes}
 use Rattle.promql_token.specs.FaultPlaces.{IsEscaping}
 use Rattle.promql_token.specs.Vocabulary.{next}
 use Rattle.promql_token.specs.TokenScanning.{Scanned, is_escape, is_quote, string, string_from}
-use Rattle.promql_token.specs.Printed.{is_spelling, concat_texts}
+use Rattle.promql_token.specs.Printed.{is_spelling}
+use Rattle.std.specs.List.{concat}
 use Rattle.promql_token.proofs.cursors.TestsAndCounts.{same_number, by_bool}
 use Rattle.promql_token.proofs.one_reading.Ends.{and_left, and_right, or_cases}
 use Rattle.promql_token.proofs.one_reading.Steps.{not_true}
@@ -24,8 +25,8 @@ AreSpelled quote ps = (has_escapes quote ≡ true) × (list_all (is_spelling quo
 data Reads (quote at : ℕ) (z : Text) (p : Scanned) : Type 0 where
   closed : (body r : Text) → IsBody quote body → z ≡ body ++ quote ∷ r → p ≡ Ok (T_STRING, at + length body + 1) → Reads quote at z p
   unclosed : IsBody quote z → p ≡ Err (OpenString, 0) → Reads quote at z p
-  at_end : (ps : List Text) → AreSpelled quote ps → z ≡ concat_texts ps ++ 92 ∷ [] → p ≡ Err (EscapeAtEnd, at + length (concat_texts ps) + 1) → Reads quote at z p
-  unknown : (ps : List Text) (v : Text) → AreSpelled quote ps → z ≡ concat_texts ps ++ 92 ∷ v → 0 < length v → is_escape quote (next v) ≡ false → p ≡ Err (Escape, at + length (concat_texts ps) + 1) → Reads quote at z p
+  at_end : (ps : List Text) → AreSpelled quote ps → z ≡ concat ps ++ 92 ∷ [] → p ≡ Err (EscapeAtEnd, at + length (concat ps) + 1) → Reads quote at z p
+  unknown : (ps : List Text) (v : Text) → AreSpelled quote ps → z ≡ concat ps ++ 92 ∷ v → 0 < length v → is_escape quote (next v) ≡ false → p ≡ Err (Escape, at + length (concat ps) + 1) → Reads quote at z p
 
 -- one more spelling in front
 abbrev IsFront : ℕ → Text → Type 0
@@ -54,11 +55,11 @@ longer quote at n q z p f len (closed body r b is e) =
     closed (q ++ body) r (front_body quote q body f b) (ap (λ t. q ++ t) is ∙ sym (append_assoc q body (quote ∷ r))) (e ∙ ap (λ k. Ok (T_STRING, k)) same)
 longer quote at n q z p f len (unclosed b e) = unclosed (front_body quote q z f b) e
 longer quote at n q z p f len (at_end ps h is e) =
-    let same : n + length (concat_texts ps) + 1 ≡ at + length (q ++ concat_texts ps) + 1 = omega (arith, length-append q (concat_texts ps)) in
-    at_end (q ∷ ps) (front_spelled quote q ps f h) (ap (λ t. q ++ t) is ∙ sym (append_assoc q (concat_texts ps) (92 ∷ []))) (e ∙ ap (λ k. Err (EscapeAtEnd, k)) same)
+    let same : n + length (concat ps) + 1 ≡ at + length (q ++ concat ps) + 1 = omega (arith, length-append q (concat ps)) in
+    at_end (q ∷ ps) (front_spelled quote q ps f h) (ap (λ t. q ++ t) is ∙ sym (append_assoc q (concat ps) (92 ∷ []))) (e ∙ ap (λ k. Err (EscapeAtEnd, k)) same)
 longer quote at n q z p f len (unknown ps v h is some other e) =
-    let same : n + length (concat_texts ps) + 1 ≡ at + length (q ++ concat_texts ps) + 1 = omega (arith, length-append q (concat_texts ps)) in
-    unknown (q ∷ ps) v (front_spelled quote q ps f h) (ap (λ t. q ++ t) is ∙ sym (append_assoc q (concat_texts ps) (92 ∷ v))) some other (e ∙ ap (λ k. Err (Escape, k)) same)
+    let same : n + length (concat ps) + 1 ≡ at + length (q ++ concat ps) + 1 = omega (arith, length-append q (concat ps)) in
+    unknown (q ∷ ps) v (front_spelled quote q ps f h) (ap (λ t. q ++ t) is ∙ sym (append_assoc q (concat ps) (92 ∷ v))) some other (e ∙ ap (λ k. Err (Escape, k)) same)
 
 quotes : (quote : ℕ) → is_quote quote ≡ true → (quote == 96) ≡ false → has_escapes quote ≡ true
 quotes quote h e = grind (arith, common_steps)
@@ -147,16 +148,16 @@ string_says quote z h = cases _ (both quote z 1 h).0
         subst (StringSays (quote ∷ z)) (sym e) (refl, quote, body, b, (seam u r (quote ∷ z) (1 + length body + 1) whole len).0)
     cases p (unclosed b e) = subst (StringSays (quote ∷ z)) (sym e) (refl, quote, z, b, refl)
     cases p (at_end ps s is e) =
-        let u : Text = quote ∷ (concat_texts ps ++ 92 ∷ []) in
-        let whole : quote ∷ z ≡ u ++ [] = ap (λ t. quote ∷ t) (is ∙ sym (append_assoc (concat_texts ps) (92 ∷ []) [])) in
-        let len : 1 + length (concat_texts ps) + 1 ≡ length u = omega (arith, length-append (concat_texts ps) (92 ∷ [])) in
-        let both = seam u [] (quote ∷ z) (1 + length (concat_texts ps) + 1) whole len in
+        let u : Text = quote ∷ (concat ps ++ 92 ∷ []) in
+        let whole : quote ∷ z ≡ u ++ [] = ap (λ t. quote ∷ t) (is ∙ sym (append_assoc (concat ps) (92 ∷ []) [])) in
+        let len : 1 + length (concat ps) + 1 ≡ length u = omega (arith, length-append (concat ps) (92 ∷ [])) in
+        let both = seam u [] (quote ∷ z) (1 + length (concat ps) + 1) whole len in
         subst (StringSays (quote ∷ z)) (sym e) (quote, (s.0, ps, s.1, both.0), both.1)
     cases p (unknown ps v s is some other e) =
-        let u : Text = quote ∷ (concat_texts ps ++ 92 ∷ []) in
-        let whole : quote ∷ z ≡ u ++ v = ap (λ t. quote ∷ t) (is ∙ sym (append_assoc (concat_texts ps) (92 ∷ []) v)) in
-        let len : 1 + length (concat_texts ps) + 1 ≡ length u = omega (arith, length-append (concat_texts ps) (92 ∷ [])) in
-        let both = seam u v (quote ∷ z) (1 + length (concat_texts ps) + 1) whole len in
+        let u : Text = quote ∷ (concat ps ++ 92 ∷ []) in
+        let whole : quote ∷ z ≡ u ++ v = ap (λ t. quote ∷ t) (is ∙ sym (append_assoc (concat ps) (92 ∷ []) v)) in
+        let len : 1 + length (concat ps) + 1 ≡ length u = omega (arith, length-append (concat ps) (92 ∷ [])) in
+        let both = seam u v (quote ∷ z) (1 + length (concat ps) + 1) whole len in
         subst (StringSays (quote ∷ z)) (sym e) (quote, (s.0, ps, s.1, both.0), subst (λ v. 0 < length v) (sym both.1) some, ap (λ v. is_escape quote (next v)) both.1 ∙ other)
 
 -- ---- the same from the spellings
@@ -219,12 +220,12 @@ spelling_passed quote p z at esc h =
         pair_passed quote b c z at esc (and_right true (b == 92) front) (and_right (true && (b == 92)) (is_escape quote c) h)
     pairs (b ∷ c ∷ d ∷ p) h = let never = three (length p) in absurd (cc)
 
-spelled_passed : (quote : ℕ) (ps : List Text) (z : Text) (at : ℕ) → has_escapes quote ≡ true → list_all (is_spelling quote) ps ≡ true → string_from quote false at (concat_texts ps ++ z) ≡ string_from quote false (at + length (concat_texts ps)) z
+spelled_passed : (quote : ℕ) (ps : List Text) (z : Text) (at : ℕ) → has_escapes quote ≡ true → list_all (is_spelling quote) ps ≡ true → string_from quote false at (concat ps ++ z) ≡ string_from quote false (at + length (concat ps)) z
 spelled_passed quote [] z at esc h = let same : at ≡ at + 0 = omega arith in ap (λ n. string_from quote false n z) same
 spelled_passed quote (p ∷ ps) z at esc h =
-    let same : at + length p + length (concat_texts ps) ≡ at + length (p ++ concat_texts ps) = omega (arith, length-append p (concat_texts ps)) in
-    ap (string_from quote false at) (append_assoc p (concat_texts ps) z)
-    ∙ spelling_passed quote p (concat_texts ps ++ z) at esc (and_left (is_spelling quote p) (list_all (is_spelling quote) ps) h)
+    let same : at + length p + length (concat ps) ≡ at + length (p ++ concat ps) = omega (arith, length-append p (concat ps)) in
+    ap (string_from quote false at) (append_assoc p (concat ps) z)
+    ∙ spelling_passed quote p (concat ps ++ z) at esc (and_left (is_spelling quote p) (list_all (is_spelling quote) ps) h)
     ∙ spelled_passed quote ps z (at + length p) esc (and_right (is_spelling quote p) (list_all (is_spelling quote) ps) h) ∙ ap (λ n. string_from quote false n z) same
 
 body_passed : (quote : ℕ) (body z : Text) (at : ℕ) → IsBody quote body → string_from quote false at (body ++ z) ≡ string_from quote false (at + length body) z
@@ -257,13 +258,13 @@ string_unclosed quote body b = ap (string_from quote false 1) (nil body) ∙ bod
 
 -- up to a backslash
 slash_passed : (quote : ℕ) (ps : List Text) (v : Text) → has_escapes quote ≡ true → list_all (is_spelling quote) ps ≡ true
-    → string ((quote ∷ (concat_texts ps ++ 92 ∷ [])) ++ v) ≡ string_from quote true (length (quote ∷ (concat_texts ps ++ 92 ∷ []))) v
+    → string ((quote ∷ (concat ps ++ 92 ∷ [])) ++ v) ≡ string_from quote true (length (quote ∷ (concat ps ++ 92 ∷ []))) v
 unfolding string
 slash_passed quote ps v esc h =
-    let len : 1 + length (concat_texts ps) + 1 ≡ suc (length (concat_texts ps ++ 92 ∷ [])) = omega (arith, length-append (concat_texts ps) (92 ∷ [])) in
-    ap (string_from quote false 1) (append_assoc (concat_texts ps) (92 ∷ []) v) ∙ spelled_passed quote ps (92 ∷ v) 1 esc h
-    ∙ ap (λ c. cond c (Ok (T_STRING, 1 + length (concat_texts ps) + 1)) (string_from quote ((92 == 92) && not (quote == 96)) (1 + length (concat_texts ps) + 1) v)) (no_quote quote esc)
-    ∙ ap (λ c. string_from quote c (1 + length (concat_texts ps) + 1) v) (takes quote esc)
+    let len : 1 + length (concat ps) + 1 ≡ suc (length (concat ps ++ 92 ∷ [])) = omega (arith, length-append (concat ps) (92 ∷ [])) in
+    ap (string_from quote false 1) (append_assoc (concat ps) (92 ∷ []) v) ∙ spelled_passed quote ps (92 ∷ v) 1 esc h
+    ∙ ap (λ c. cond c (Ok (T_STRING, 1 + length (concat ps) + 1)) (string_from quote ((92 == 92) && not (quote == 96)) (1 + length (concat ps) + 1) v)) (no_quote quote esc)
+    ∙ ap (λ c. string_from quote c (1 + length (concat ps) + 1) v) (takes quote esc)
     ∙ ap (λ n. string_from quote true n v) len
   where
     no_quote : (quote : ℕ) → has_escapes quote ≡ true → (92 == quote) ≡ false
@@ -280,4 +281,4 @@ string_unknown quote u [] h some other = absurd (omega arith)
 string_unknown quote u (c ∷ v) h some other =
     let n = length u in
     subst (λ u. string (u ++ c ∷ v) ≡ Err (Escape, length u)) (sym h.3)
-    (slash_passed quote h.1 (c ∷ v) h.0 h.2 ∙ ap (λ x. cond x (string_from quote false (length (quote ∷ (concat_texts h.1 ++ 92 ∷ [])) + 1) v) (Err (Escape, length (quote ∷ (concat_texts h.1 ++ 92 ∷ []))))) other)
+    (slash_passed quote h.1 (c ∷ v) h.0 h.2 ∙ ap (λ x. cond x (string_from quote false (length (quote ∷ (concat h.1 ++ 92 ∷ [])) + 1) v) (Err (Escape, length (quote ∷ (concat h.1 ++ 92 ∷ []))))) other)

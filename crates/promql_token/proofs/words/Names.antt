@@ -4,7 +4,8 @@ use Rattle.std.specs.List.{prefix_len}
 use Rattle.std.proofs.lemmas.Grind.{common_steps}
 use Rattle.promql_token.specs.declared.class.Class.TheVariants as class
 use Rattle.promql_text.specs.Texts.{Text}
-use Rattle.promql_token.specs.Classes.{is_letter, is_name_byte, end_of_run}
+use Rattle.promql_token.specs.Classes.{is_letter, end_of_run}
+use Rattle.promql_token.specs.WordRanks.{is_name_byte}
 
 letter_in_name : (b : ℕ) → is_letter b ≡ true → is_name_byte b ≡ true
 letter_in_name b h = grind (arith, common_steps)

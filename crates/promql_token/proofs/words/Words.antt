@@ -8,7 +8,8 @@ use Rattle.promql_token.specs.declared.class.Class.{Class}
 use Rattle.promql_token.specs.declared.class.Class.TheVariants as class
 use Rattle.promql_token.specs.declared.ids.TheConstants.{T_IDENTIFIER, T_METRIC_IDENTIFIER}
 use Rattle.promql_text.specs.Texts.{Text, code}
-use Rattle.promql_token.specs.Classes.{is_in, is_name_byte, is_word_byte, end_of_run}
+use Rattle.promql_token.specs.Classes.{is_in, end_of_run}
+use Rattle.promql_token.specs.WordRanks.{is_name_byte, is_word_byte}
 use Rattle.promql_token.specs.TokenScanning.{is_fill, opens, word, word_id}
 use Rattle.promql_token.proofs.words.Keywords.{no_keyword_with_colon}
 use Rattle.promql_token.proofs.cursors.TestsAndCounts.{by_bool}

@@ -1,6 +1,6 @@
 use Rattle.std.proofs.Common.{arith, ◌≡◌, ◌+◌, ◌-◌, ◌≤◌, ◌∷◌, ◌++◌, ◌∙◌, [], ap, append-nil, append_assoc, drop, length, sym, take}
 use Rattle.promql_token.specs.Scan.{items_left}
-use Rattle.promql_token.specs.Trivia.{lexemes}
+use Rattle.std.specs.Result.{ok_prefix}
 use Rattle.promql_formatter.specs.Comments.{gaps}
 use Rattle.promql_formatter.proofs.CommentScans.{all, clamped_gaps, in_gaps, last_gap, lines}
 use Rattle.promql_formatter.proofs.comments.comment_lines.Goals as goal
@@ -11,11 +11,11 @@ loop-token-preserved c =
     let s = c.args.text.now in
     let x = c.in-Ok.token in
     let found = c.loop-token.found.items in
-    let rest = lexemes (items_left c.next.new.self) in
+    let rest = ok_prefix (items_left c.next.new.self) in
     let past = x.start + x.len in
     let gap = c.between.result.now in
     let fits : length s ≤ 18446744073709551615 = omega arith in
-    let head : lexemes (items_left c.loop-token.token-iterator) ≡ x ∷ rest = ap lexemes (c.in-Some.ensures.steps ∙ ap (λ r. r ∷ items_left c.next.new.self) c.in-Ok.is) in
+    let head : ok_prefix (items_left c.loop-token.token-iterator) ≡ x ∷ rest = ap ok_prefix (c.in-Some.ensures.steps ∙ ap (λ r. r ∷ items_left c.next.new.self) c.in-Ok.is) in
     let clamp : gaps s c.saturating_add-at.result rest ≡ gaps s past rest = ap (λ n. gaps s n rest) c.saturating_add-at.ensures ∙ clamped_gaps s past _ rest fits in
     let is : gap ≡ take (x.start - c.loop-token.at) (drop c.loop-token.at s) = c.between.ensures ∙ ap (λ bytes. take (x.start - c.loop-token.at) (drop c.loop-token.at bytes)) c.as_bytes-bytes.ensures.value in
     let pushed : c.push_comments.new.out.items ≡ found ++ all (lines gap) = c.in_ok-push_comments.ensures in
@@ -35,9 +35,9 @@ returns c =
     let s = c.args.text.now in
     let found = c.loop-token.found.items in
     let at = c.loop-token.at in
-    let ended : lexemes (items_left c.loop-token.token-iterator) ≡ [] = elim c.match-next.branch [
-      | in-None w ↦ ap lexemes w.in-None.ensures.steps.0
-      | in-Some+in_default w ↦ ap lexemes (w.in-Some.ensures.steps ∙ ap (λ r. r ∷ items_left c.next.new.self) w.in_default.is)
+    let ended : ok_prefix (items_left c.loop-token.token-iterator) ≡ [] = elim c.match-next.branch [
+      | in-None w ↦ ap ok_prefix w.in-None.ensures.steps.0
+      | in-Some+in_default w ↦ ap ok_prefix (w.in-Some.ensures.steps ∙ ap (λ r. r ∷ items_left c.next.new.self) w.in_default.is)
     ] in
     let bytes = c.as_bytes-bytes.ensures.value in
     let is : c.between-2.result.now ≡ drop at s =

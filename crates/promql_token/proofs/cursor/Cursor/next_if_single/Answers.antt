@@ -1,7 +1,8 @@
 use Rattle.std.proofs.Common.{◌∙◌, ℕ, List, ap, sym}
 use Rattle.std.specs.Prelude.{filter}
 use denote.Bor.{Bor}
-use Rattle.promql_token.specs.Cursor.{has_fault, is_before_end, up_to_fault}
+use Rattle.promql_token.specs.Cursor.{is_before_end}
+use Rattle.promql_token.specs.Front.{has_fault, up_to_fault}
 use Rattle.promql_token.proofs.cursors.FrontTokens.{next_here, tokens_past, fault_past}
 use Rattle.promql_token.proofs.cursor.Cursor.next_if_single.Goals as goal
 
