@@ -15,9 +15,6 @@ abbrev pub returns_bool : Option Matching → Bool
 returns_bool None = false
 returns_bool (Some (matching card clause return_bool values)) = return_bool
 
-abbrev pub is_joint : Option Matching → Bool
-is_joint m = option_map_or kind.is_joint m false
-
 abbrev pub joint_labels : Option Matching → Option (List Text)
 joint_labels m = option_and_then kind.joint_labels m
 

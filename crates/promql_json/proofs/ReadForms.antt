@@ -7,7 +7,7 @@ use Rattle.std.proofs.lemmas.Bool.Decides.{Decides-eqb}
 use Rattle.std.specs.List.{AllByRecursion, list_any}
 use Rattle.std.specs.Str.{bytes_eq}
 use Rattle.std.specs.declared.boxed.Box.{Box}
-use Rattle.std.specs.Option.{option_or}
+use Rattle.std.specs.Option.{option_map_or, option_or}
 use Rattle.serde_json.specs.Data.{Data, null, boolean, item, no_items, object, string as text, Members, no_members, member}
 use Rattle.serde_json.specs.Find.{get}
 use Rattle.serde_json.specs.View.{items_of}
@@ -17,7 +17,7 @@ use Rattle.promql_text.specs.declared.number.Number.{Number}
 use Rattle.promql_token.specs.Ids.{is_one_of, text_of}
 use Rattle.promql_label.specs.PlainMatchers.{PlainMatcher, plain_matchers}
 use Rattle.promql_kind.specs.Functions.{Signature, signature, function_named, name_of}
-use Rattle.promql_kind.specs.Modifiers.{Cardinality, one_to_one, many_to_one, one_to_many, many_to_many, Clause, Matching, matching, fills, is_including_some}
+use Rattle.promql_kind.specs.Modifiers.{Cardinality, one_to_one, many_to_one, one_to_many, many_to_many, Clause, Matching, matching, fills, is_including}
 use Rattle.promql_kind.specs.declared.value.ValueType.{ValueType}
 use Rattle.promql_ast.specs.Selectors.{Selector, selector}
 use Rattle.promql_ast.specs.Tree.{Tree, Trees, no_trees, first_tree, matrix, vector}
@@ -205,7 +205,7 @@ no_cardinality ms one many many_to_many h = cc
 
 pub no_modifier : (ms : Members)
     → ((card : Cardinality) (clause : Option Clause) (r l : Option Number) → ReadableFill r → ReadableFill l
-    → ms ≢ modifier_members (cardinality_json card) (fills_json (fills r l)) (list []) (labels_json (optional_labels clause)) (boolean (is_including_some clause)))
+    → ms ≢ modifier_members (cardinality_json card) (fills_json (fills r l)) (list []) (labels_json (optional_labels clause)) (boolean (option_map_or is_including clause false)))
     → (m : Matching) → ReadableMatching (Some m) → object ms ≢ matching_json m
 no_modifier ms none (matching card clause return_bool (fills r l)) fine h = none card clause r l fine.0 fine.1 cc
 

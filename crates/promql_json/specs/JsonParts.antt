@@ -1,5 +1,5 @@
 -- The JSON form of what nodes hold beside their parts (docs/reference/json.md, "Parts").
-use Rattle.std.specs.Prelude.{ℕ, ◌/◌, ℤ, pos, neg_ℤ, List, [], ◌∷◌, map, Option, Some, None, codes}
+use Rattle.std.specs.Prelude.{ℕ, ◌/◌, ℤ, false, pos, neg_ℤ, List, [], ◌∷◌, map, Option, Some, None, codes}
 use Rattle.std.specs.Option.{option_map_or}
 use Rattle.serde_json.specs.Data.{Data, null, boolean, number, string, array, object, Members, no_members, put}
 use Rattle.serde_json.specs.Find.{of_integer}
@@ -9,7 +9,7 @@ use Rattle.promql_text.specs.Texts.{Text}
 use Rattle.promql_text.specs.declared.number.Number.{Number}
 use Rattle.promql_label.specs.PlainMatchers.{PlainMatcher, plain_matcher, PlainMatchers, plain_matchers, operator_text}
 use Rattle.promql_kind.specs.Functions.{Signature, signature}
-use Rattle.promql_kind.specs.Modifiers.{clause_labels, is_including_some, Cardinality, one_to_one, many_to_one, one_to_many, many_to_many, Fills, fills, Matching, matching}
+use Rattle.promql_kind.specs.Modifiers.{clause_labels, is_including, Cardinality, one_to_one, many_to_one, one_to_many, many_to_many, Fills, fills, Matching, matching}
 use Rattle.promql_kind.specs.ValueTypes.{type_text}
 use Rattle.promql_ast.specs.Shifts.{Shift, back, ahead, Moment, at_start, at_end, at_time}
 use Rattle.promql_ast.specs.declared.range_mode.RangeMode.{RangeMode}
@@ -71,7 +71,7 @@ matching_json (matching card clause return_bool values) = object (members (
     (codes "card", cardinality_json card)
     ∷ (codes "include", list [])
     ∷ (codes "labels", labels_json (option_map_or clause_labels clause []))
-    ∷ (codes "on", boolean (is_including_some clause))
+    ∷ (codes "on", boolean (option_map_or is_including clause false))
     ∷ (codes "fillValues", fills_json values) ∷ []))
 
 -- ---- "Offset and @", "Ranges"

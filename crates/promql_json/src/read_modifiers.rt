@@ -1,6 +1,7 @@
 //! Modifiers and functions: docs/reference/json.md, "Parts". Private.
 
-ghost use Rattle.std.specs.Prelude.{◌≡◌, ◌≢◌, ◌⊎◌, ℕ, if◌then◌else◌, [], IfErr, IfOk, IfSome, List, OnErr, OnOk, Option, Some, codes, map, option_map};
+ghost use Rattle.std.specs.Prelude.{◌≡◌, ◌≢◌, ◌⊎◌, ℕ, false, if◌then◌else◌, [], IfErr, IfOk, IfSome, List, OnErr, OnOk, Option, Some, codes, map, option_map};
+ghost use Rattle.std.specs.Option.{option_map_or};
 ghost use Rattle.serde_json.specs.Data.{Data, boolean, member, no_members, object, string};
 ghost use Rattle.serde_json.specs.Find.{get};
 ghost use Rattle.serde_json.specs.View.{members_view, view};
@@ -9,7 +10,7 @@ ghost use Rattle.promql_text.specs.declared.number.Number.{Number as AnyNumber};
 ghost use Rattle.promql_label.specs.Labels.{labels_of};
 ghost use Rattle.promql_kind.specs.Functions.{Signature, function_named, name_of, signature_of};
 ghost use Rattle.promql_kind.specs.ModifierViews.{cardinality_of, clause_of, fills_of, matching_of};
-ghost use Rattle.promql_kind.specs.Modifiers.{Cardinality, Clause, Matching, fills, is_including_some};
+ghost use Rattle.promql_kind.specs.Modifiers.{Cardinality, Clause, Matching, fills, is_including};
 ghost use Rattle.promql_ast.specs.OptionalModifiers.{returns_bool};
 ghost use Rattle.promql_json.specs.JsonParts as spec;
 ghost use Rattle.promql_json.specs.FormNames.{is_excluding, optional_labels, type_json};
@@ -71,10 +72,10 @@ fn read_matched(
     ensures labels { IfOk result (λ m. view labels.now
         ≡ spec.labels_json (optional_labels (option_map clause_of m))) }
     ensures on { IfOk result (λ m. view on.now
-        ≡ boolean (is_including_some (option_map clause_of m))) }
+        ≡ boolean (option_map_or is_including (option_map clause_of m) false)) }
     ensures err { IfErr result (λ e. e ≢ Memory → (m : Option Clause)
         → view labels.now ≡ spec.labels_json (optional_labels m)
-        → view on.now ≢ boolean (is_including_some m)) }
+        → view on.now ≢ boolean (option_map_or is_including m false)) }
     ensures place { IfErr result (λ e. (d : Data) → get (codes "labels") d ≡ Some (view labels.now)
         → get (codes "on") d ≡ Some (view on.now) → IsIn modifier d e) }
 {

@@ -1,10 +1,10 @@
 -- How modifiers print (docs/reference/printing.md, "Modifiers"): each part with one space before it.
-use Rattle.std.specs.Prelude.{Bool, ◌||◌, if◌then◌else◌, [], ◌++◌, Option, Some, None, codes}
+use Rattle.std.specs.Prelude.{Bool, not, ◌==◌, ◌||◌, if◌then◌else◌, [], ◌++◌, length, Option, Some, None, codes}
 use Rattle.promql_text.specs.NumberText.{number_text}
 use Rattle.promql_text.specs.declared.number.Number.{Number}
 use Rattle.promql_label.specs.Labels.{labels_text}
 use Rattle.promql_text.specs.Texts.{Text}
-use Rattle.promql_kind.specs.Modifiers.{Clause, including, excluding, Cardinality, many_to_one, one_to_many, Fills, fills, Matching, matching, has_any, is_grouping, number_eq}
+use Rattle.promql_kind.specs.Modifiers.{Clause, including, excluding, Cardinality, many_to_one, one_to_many, Fills, fills, Matching, matching, is_grouping, number_eq}
 
 abbrev pub bool_text : Bool → Text
 bool_text b = if b then codes " bool" else []
@@ -13,7 +13,7 @@ bool_text b = if b then codes " bool" else []
 abbrev pub matched_text : Bool → Option Clause → Text
 matched_text is_grouping None = []
 matched_text is_grouping (Some (including ls)) = codes " on (" ++ (labels_text ls ++ codes ")")
-matched_text is_grouping (Some (excluding ls)) = if has_any ls || is_grouping then codes " ignoring (" ++ (labels_text ls ++ codes ")") else []
+matched_text is_grouping (Some (excluding ls)) = if not (length ls == 0) || is_grouping then codes " ignoring (" ++ (labels_text ls ++ codes ")") else []
 
 abbrev pub grouping_text : Cardinality → Text
 grouping_text (many_to_one ls) = codes " group_left (" ++ (labels_text ls ++ codes ")")

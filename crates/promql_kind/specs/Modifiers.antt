@@ -1,12 +1,11 @@
 -- Modifiers, as plain data (docs/reference/tree.md, "Modifiers").
-use Rattle.std.specs.Prelude.{Bool, true, false, ◌==◌, ◌&&◌, List, [], ◌∷◌, Option, Some, None, is_some, option_map}
-use Rattle.std.specs.List.{list_any}
+use Rattle.std.specs.Prelude.{Bool, true, false, not, ◌==◌, ◌&&◌, List, length, Option, Some, None, is_some, option_map}
 use Rattle.std.specs.Option.{option_map_or, option_zip}
 use mathlib.Core.Bool.{beq}
 use Rattle.promql_text.specs.Numbers.{Exact}
 use Rattle.promql_text.specs.declared.number.Number.{Number}
 use Rattle.promql_text.specs.declared.number.Number.TheVariants.{Finite, Inf, NegInf, NaN}
-use Rattle.promql_label.specs.Labels.{common, is_among}
+use Rattle.promql_label.specs.Labels.{common}
 use Rattle.promql_text.specs.Texts.{Text}
 
 -- labels to include, after `by` and `on`, or to exclude, after `without` and `ignoring`
@@ -26,9 +25,6 @@ pub data Fills : Type 0 where
 pub data Matching : Type 0 where
   matching : Cardinality → Option Clause → Bool → Fills → Matching
 
-abbrev pub default_matching : Matching
-default_matching = matching one_to_one None false (fills None None)
-
 abbrev pub clause_labels : Clause → List Text
 clause_labels (including ls) = ls
 clause_labels (excluding ls) = ls
@@ -46,29 +42,17 @@ grouping _ = None
 abbrev pub is_grouping : Cardinality → Bool
 is_grouping card = is_some (grouping card)
 
--- the labels that the grouping and the matching list have in common, where both are there, and whether there is one
+-- the labels that the grouping and the matching list have in common, where both are there
 abbrev pub joint_labels : Matching → Option (List Text)
 joint_labels (matching card clause return_bool values) =
     option_map (λ (p : List Text × Clause). common p.0 (clause_labels p.1)) (option_zip (grouping card) clause)
 
-abbrev pub is_joint : Matching → Bool
-is_joint (matching card clause return_bool values) =
-    option_map_or (λ (p : List Text × Clause). list_any (is_among (clause_labels p.1)) p.0) (option_zip (grouping card) clause) false
-
-abbrev pub is_including_some : Option Clause → Bool
-is_including_some None = false
-is_including_some (Some m) = is_including m
-
 abbrev pub is_on : Matching → Bool
-is_on (matching card clause return_bool values) = is_including_some clause
-
-abbrev pub has_any : List Text → Bool
-has_any [] = false
-has_any (l ∷ ls) = true
+is_on (matching card clause return_bool values) = option_map_or is_including clause false
 
 -- there is a label after `on` or `ignoring`
 abbrev pub has_matching_labels : Matching → Bool
-has_matching_labels (matching card clause return_bool values) = option_map_or (λ m. has_any (clause_labels m)) clause false
+has_matching_labels (matching card clause return_bool values) = option_map_or (λ m. not (length (clause_labels m) == 0)) clause false
 
 abbrev pub exact_eq : Exact → Exact → Bool
 exact_eq a b =

@@ -1,7 +1,8 @@
 //! Modifiers of binary expressions: docs/reference/tree.md, "Modifiers", and docs/reference/printing.md, "Modifiers".
 
-ghost use Rattle.std.specs.Prelude.{◌≡◌, ◌++◌, [], Some, None, IfOk, codes, if◌then◌else◌, map, option_map, string_bytes};
+ghost use Rattle.std.specs.Prelude.{◌≡◌, ◌≢◌, ◌↔◌, ◌++◌, [], false, IsTrue, Some, None, IfOk, codes, if◌then◌else◌, map, option_map, string_bytes};
 ghost use Rattle.std.specs.Fmt.{WritesStyledOnOk};
+ghost use Rattle.std.specs.Option.{IsSomeAnd};
 ghost use Rattle.promql_text.specs.NumberText.{number_text};
 ghost use Rattle.promql_label.specs.Labels.{labels_of, labels_text};
 ghost use Rattle.promql_kind.specs.Modifiers as spec;
@@ -31,7 +32,8 @@ pub struct BinModifier {
 }
 
 impl Default for BinModifier {
-    ghost is_default = { λ m. matching_of m ≡ spec.default_matching };
+    ghost is_default = { λ m. matching_of m
+        ≡ spec.matching spec.one_to_one None false (spec.fills None None) };
 
     /// One to one, and nothing else.
     fn default() -> BinModifier {
@@ -95,7 +97,8 @@ impl BinModifier {
 
     /// Whether a label follows both the grouping and the matching word.
     pub fn is_labels_joint(&self) -> bool
-        ensures { result ≡ spec.is_joint (matching_of self.now) }
+        ensures { IsTrue result
+            ↔ IsSomeAnd (spec.joint_labels (matching_of self.now)) (λ labels. labels ≢ []) }
     {
         match (self.card.labels(), &self.matching) {
             (Some(labels), Some(matching)) => labels.is_joint(matching.labels()),

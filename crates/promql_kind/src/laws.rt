@@ -7,7 +7,9 @@ ghost use Rattle.promql_kind.specs.declared.function_table.TheConstants.{FUNCTIO
 ghost use Rattle.promql_kind.specs.FunctionTable.{functions};
 ghost use Rattle.promql_kind.specs.Functions.{function_named, is_named, row_signature, signature_of};
 ghost use Rattle.promql_kind.specs.ModifierFeeds.{cardinality_feed, clause_feed, fills_feed, matching_feed, number_feed, signature_feed, type_feed};
+ghost use Rattle.promql_kind.specs.Modifiers.{number_eq};
 ghost use Rattle.promql_kind.specs.ModifierViews.{cardinality_of, clause_of, fills_of, matching_of};
+ghost use Rattle.promql_kind.specs.ValueTypes.{type_eq};
 
 use crate::bin_modifier::BinModifier;
 use crate::cardinality::VectorMatchCardinality;
@@ -21,6 +23,12 @@ use std::hash::Hash;
 /// Value types are equal exactly if they are the same.
 pub fn equal_value_types()
     ensures { IsSameBy (λ t. t) ⟦<ValueType as PartialEq>⟧.eq }
+{}
+
+/// The tests of value types and numbers that contracts name hold exactly of two that are the same.
+pub fn tests_decide()
+    ensures value_types { IsSameBy (λ t. t) type_eq }
+    ensures numbers { IsSameBy (λ n. n) number_eq }
 {}
 
 /// A clone is the value.

@@ -1,11 +1,11 @@
 -- A renamed tree is well typed if the tree is, where no two labels become one.
 use Rattle.std.proofs.Common.{◌≡◌, ◌⊎◌, ℕ, ◌+◌, refl, sym, ◌∙◌, ap, subst, Bool, true, false, ◌||◌, Option, Some, None, List, [], ◌∷◌, ◌++◌, length}
-use Rattle.std.specs.Prelude.{option_map}
+use Rattle.std.specs.Prelude.{◌==◌, not, option_map}
 use Rattle.std.specs.List.{list_any}
 use Rattle.std.proofs.lemmas.List.Folds.{list_any-append}
 use Rattle.promql_text.specs.Texts.{Text}
 use Rattle.promql_kind.specs.Functions.{Signature, signature}
-use Rattle.promql_kind.specs.Modifiers.{including, excluding, Matching, matching, has_any}
+use Rattle.promql_kind.specs.Modifiers.{including, excluding, Matching, matching}
 use Rattle.promql_kind.specs.declared.value.ValueType.{ValueType}
 use Rattle.promql_kind.specs.declared.value.ValueType.TheVariants as kind
 use Rattle.promql_ast.specs.Arguments.{count}
@@ -32,10 +32,10 @@ parts p ts us none = neither (list_any p ts) (list_any p us) (sym (list_any-appe
 module _ (r : Renaming) where
   -- ---- modifiers
 
-  as_many : (ls : List Text) → has_any (renamed_labels r ls) ≡ has_any ls
+  as_many : (ls : List Text) → not (length (renamed_labels r ls) == 0) ≡ not (length ls == 0)
   as_many ls = go r ls
     where
-      go : (r : Renaming) (ls : List Text) → has_any (renamed_labels r ls) ≡ has_any ls
+      go : (r : Renaming) (ls : List Text) → not (length (renamed_labels r ls) == 0) ≡ not (length ls == 0)
       go (of_metric from to) ls = refl
       go (of_label from to) [] = refl
       go (of_label from to) (l ∷ ls) = refl
