@@ -2,6 +2,7 @@
 pub mod Groups
 pub mod LabelRows
 pub mod OneOrder
+pub mod OneSorting
 pub mod PrintedTexts
 pub mod RisingTexts
 pub mod SortedMatchers

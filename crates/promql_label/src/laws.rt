@@ -4,6 +4,7 @@ ghost use Rattle.regex.specs.Patterns.{default_config};
 ghost use Rattle.regex_syntax.specs.Grammar.{read};
 ghost use Rattle.std.specs.Prelude.{◌≡◌, ◌≢◌, ◌↔◌, ◌<◌, ◌≤◌, ◌++◌, ℕ, [], List, IsSomeAnd, IsTrue, Ok, Some, chars, codes, false, length, map, true};
 ghost use Rattle.std.specs.List.{list_any, AllPairs, Contains};
+ghost use Rattle.std.specs.List.Sorted.{IsSortedByKey, IsStableByKey};
 ghost use Rattle.promql_text.specs.Texts.{Text};
 ghost use Rattle.promql_label.specs.Answers.{Allows, anchor, Answer, has_one_answer, IsReadPair, pattern_answer};
 ghost use Rattle.promql_label.specs.Labels.{common, is_among, is_number_word, label_text, labels_of};
@@ -13,11 +14,12 @@ ghost use Rattle.promql_label.specs.Operators.{IsMatcherOf};
 ghost use Rattle.promql_label.specs.PatternSize.{size, weight};
 ghost use Rattle.promql_label.specs.PlainPatterns.{is_plain};
 ghost use Rattle.promql_label.specs.PlainMatchers.{PlainMatcher, PlainMatchers, matcher_text, matchers_text, name_text};
-ghost use Rattle.promql_label.specs.ReadMatchers.{Parts, Token, inside, matchers_tokens, parts_of, printed_groups, read_groups, sorted_matchers};
+ghost use Rattle.promql_label.specs.ReadMatchers.{MeanGroups, parts_of, printed_groups, sorted_matchers};
 ghost use Rattle.promql_label.specs.Repeats.{escaped_repeats, opens_count, OpensCount};
 ghost use Rattle.promql_label.specs.RepeatPlaces.{bytes_from};
-ghost use Rattle.promql_label.specs.SortedTexts.{sorted_texts};
+ghost use Rattle.promql_label.specs.SortedTexts.{sorted_texts, text_order};
 ghost use Rattle.promql_token.specs.Lexing.{pieces};
+ghost use Rattle.promql_token.specs.declared.state.Mode.TheVariants.{Braces};
 ghost use Rattle.promql_text.specs.Equalities.{HashesAlike, IsSameBy};
 ghost use Rattle.promql_label.specs.MatcherErrors.{plain_error_of};
 ghost use Rattle.promql_label.specs.MatcherFeeds.{labels_feed, matcher_feed, matchers_feed, operator_feed};
@@ -70,20 +72,28 @@ pub fn printed_labels_read_back()
     ensures names { (name : Text) → label_of (name_text name) ≡ Some name }
 {}
 
-/// A printed list of matchers is read in braces, before any text, as the tokens of its matchers.
-/// These tokens mean the operator, the name and the value of each matcher, group by group, in the order
-/// in which they print; so lists that print alike have the same. Tokens mean nothing but what some
-/// list prints.
+/// The matchers of a normal form are in byte order of their texts, and those that print alike keep their order; no other list of
+/// them is so. Their texts are the texts in byte order.
+pub fn sorted_matchers_are_one_list()
+    ensures one { (cs ds : List PlainMatcher) → (ds ≡ sorted_matchers cs)
+        ↔ (IsSortedByKey matcher_text text_order ds × IsStableByKey matcher_text text_order cs ds) }
+    ensures texts { (cs : List PlainMatcher)
+        → sorted_texts (map matcher_text cs) ≡ map matcher_text (sorted_matchers cs) }
+{}
+
+/// A printed list of matchers is read in braces, at any depth and before any text, as tokens that mean its matchers, group by group,
+/// in the order in which they print. Tokens mean one operator, name and value of each matcher, so lists that print alike have the
+/// same. They mean nothing but what some list prints.
 pub fn printed_matchers_read_back()
-    ensures tokens { (depth : ℕ) (cs : PlainMatchers) (r : Text)
-        → pieces (inside depth) (matchers_text cs ++ r)
-        ≡ map (λ t. Ok t) (matchers_tokens cs) ++ pieces (inside depth) r }
-    ensures meaning { (cs : PlainMatchers)
-        → read_groups (matchers_tokens cs) ≡ Some (map (map parts_of) (printed_groups cs)) }
-    ensures nothing_else { (ts : List Token) (ps : List (List Parts)) → read_groups ts ≡ Some ps
-        → (cs : PlainMatchers) × (map (map parts_of) (printed_groups cs) ≡ ps) }
-    ensures order { (cs : List PlainMatcher)
-        → map matcher_text (sorted_matchers cs) ≡ sorted_texts (map matcher_text cs) }
+    ensures tokens { (cs : PlainMatchers)
+        → (ts : List (ℕ × Text)) × MeanGroups ts (printed_groups cs) × ((depth : ℕ) (r : Text)
+        → pieces (record { depth = depth; mode = Braces }) (matchers_text cs ++ r)
+        ≡ map (λ t. Ok t) ts ++ pieces (record { depth = depth; mode = Braces }) r) }
+    ensures one_meaning { (ts : List (ℕ × Text)) (gs hs : List (List PlainMatcher))
+        → MeanGroups ts gs → MeanGroups ts hs
+        → map (map parts_of) gs ≡ map (map parts_of) hs }
+    ensures nothing_else { (ts : List (ℕ × Text)) (gs : List (List PlainMatcher)) → MeanGroups ts gs
+        → (cs : PlainMatchers) × (printed_groups cs ≡ gs) }
     ensures built { (id : ℕ) (name value : Text) (c : PlainMatcher)
         → IsMatcherOf id name value c
         → parts_of c ≡ (id, name, value) }

@@ -19,7 +19,7 @@ is_before x y = is_lt (text_order (text_of x) (text_of y))
 pub texts_rank : IsStrictWeakOrder is_before
 texts_rank = ranks_by nat_list_cmp_total text_of
 
-reversed : (r : Ordering) → is_gt (ordering_reverse r) ≡ is_lt r
+pub reversed : (r : Ordering) → is_gt (ordering_reverse r) ≡ is_lt r
 reversed Less = refl
 reversed Equal = refl
 reversed Greater = refl

@@ -36,7 +36,7 @@ all_weaker P Q f (x ∷ xs) h = (f x h.0, all_weaker P Q f xs h.1)
 
 module _ {X : Type 0} (lt : X → X → Bool) (o : IsStrictWeakOrder lt) where
   -- no element is less than one before it
-  abbrev Ascends : List X → Type 0
+  abbrev pub Ascends : List X → Type 0
   Ascends [] = Unit {0}
   Ascends (x ∷ xs) = AllByRecursion (λ y. lt y x ≡ false) xs × Ascends xs
 
@@ -140,11 +140,11 @@ module _ {X : Type 0} (lt : X → X → Bool) (o : IsStrictWeakOrder lt) where
       go true e rest = ap (λ ws. cond (p d) (d ∷ ws) ws) rest ∙ apart (p c) (p d) refl refl e
       go false e rest = refl
 
-  ascends_sorted : (xs : List X) → Ascends (insertion_sort xs)
+  pub ascends_sorted : (xs : List X) → Ascends (insertion_sort xs)
   ascends_sorted [] = tt
   ascends_sorted (x ∷ xs) = ascends_inserted x (insertion_sort xs) (ascends_sorted xs)
 
-  stable_sorted : (x : X) (xs : List X) → filter (ties lt x) (insertion_sort xs) ≡ filter (ties lt x) xs
+  pub stable_sorted : (x : X) (xs : List X) → filter (ties lt x) (insertion_sort xs) ≡ filter (ties lt x) xs
   stable_sorted x [] = refl
   stable_sorted x (y ∷ ys) =
       stable_inserted x y (insertion_sort ys) ∙ ap (λ ws. cond (ties lt x y) (y ∷ ws) ws) (stable_sorted x ys)

@@ -1,9 +1,9 @@
--- The tokens of printed lists of matchers mean the matchers.
-use Rattle.std.proofs.Common.{◌≡◌, ℕ, refl, sym, ap, ◌∙◌, ◌==◌, Bool, true, false, cond, Option, Some, option_map, option_and_then, List, [], ◌∷◌, ◌++◌, map, flat_map, codes, append-nil, All, Ok, Err}
-use Rattle.std.specs.List.{join_by, slice_split}
+-- The tokens of printed lists of matchers mean the matchers, and tokens mean one thing only.
+use Rattle.std.proofs.Common.{◌≡◌, ◌⊎◌, ℕ, ◌<◌, arith, length, refl, sym, ap, ap₂, ◌∙◌, ◌==◌, Bool, true, false, cond, inl, inr, Some, List, [], ◌∷◌, ◌++◌, map, flat_map, codes, append-nil, subst, All, Ok, Err}
+use Rattle.std.specs.List.{join_by, slice_split, AllZip}
 use Rattle.std.proofs.lemmas.List.{append_cancel_right}
 use Rattle.std.proofs.lemmas.List.Elements.{All-append, All-cons, All-from_recursion, All-nil}
-use Rattle.std.proofs.lemmas.List.Splits.{slice_split_at, slice_split_none}
+use Rattle.std.proofs.lemmas.List.Splits.{length-slice_split, slice_split_at, slice_split_none}
 use Rattle.promql_text.specs.Quoting.{quoted_text}
 use Rattle.promql_text.specs.Texts.{Text}
 use Rattle.promql_text.proofs.quoting.Quotes.{unquoted_text-quoted}
@@ -11,32 +11,29 @@ use Rattle.promql_token.specs.Classes.{is_label}
 use Rattle.promql_token.specs.Lexing.{ScannedText, pieces}
 use Rattle.promql_token.specs.declared.ids.TheConstants.{T_COMMA, T_IDENTIFIER, T_LOR, T_STRING}
 use Rattle.promql_label.specs.Operators.{IsMatcherOf}
-use Rattle.promql_label.specs.PlainMatchers.{Operator, equal, not_equal, matches, matches_not, PlainMatcher, plain_matcher, PlainMatchers, plain_matchers, matchers_text, operator_text}
-use Rattle.promql_label.specs.ReadMatchers.{Token, inside, sorted_matchers, printed_groups, name_token, operator_id, matcher_tokens, group_tokens, matchers_tokens, parts_of, read_name, read_operator, read_matcher, all_or_none, read_group, read_groups}
+use Rattle.promql_label.specs.PlainMatchers.{Operator, equal, not_equal, matches, matches_not, PlainMatcher, plain_matcher, PlainMatchers, plain_matchers, matchers_text}
+use Rattle.promql_label.specs.ReadMatchers.{sorted_matchers, printed_groups, operator_id, parts_of, IsString, MeanMatcher, MeanGroup, MeanGroups}
+use Rattle.promql_label.proofs.readback.MatcherTokens.{Token, inside, name_token, matcher_tokens, group_tokens, matchers_tokens}
 use Rattle.promql_label.proofs.readback.PrintedTokens.{matchers_read}
 
-name_again : (name : Text) → read_name (name_token name) ≡ Some name
-name_again name = go (is_label name)
+-- ---- the tokens of a list mean its matchers
+
+name_means : (name : Text) → (name_token name ≡ (T_IDENTIFIER, name)) ⊎ IsString (name_token name) name
+name_means name = go (is_label name)
   where
-    go : (b : Bool) → read_name (cond b T_IDENTIFIER T_STRING, cond b name (quoted_text name)) ≡ Some name
-    go true = refl
-    go false = unquoted_text-quoted name
+    token : Bool → Token
+    token b = (cond b T_IDENTIFIER T_STRING, cond b name (quoted_text name))
 
-operator_again : (op : Operator) → read_operator (operator_id op, operator_text op) ≡ Some (operator_id op)
-operator_again equal = refl
-operator_again not_equal = refl
-operator_again (matches w) = refl
-operator_again (matches_not w) = refl
+    go : (b : Bool) → (token b ≡ (T_IDENTIFIER, name)) ⊎ IsString (token b) name
+    go true = inl refl
+    go false = inr (refl, unquoted_text-quoted name)
 
-matcher_again : (c : PlainMatcher) → read_matcher (matcher_tokens c) ≡ Some (parts_of c)
-matcher_again (plain_matcher op name value) = λ i.
-    option_and_then (λ n.
-    option_and_then (λ s.
-    option_map (λ v. (s, n, v)) (unquoted_text-quoted value i)) (operator_again op i)) (name_again name i)
+matcher_means : (c : PlainMatcher) → MeanMatcher (matcher_tokens c) c
+matcher_means (plain_matcher op name value) = (name_means name, refl, (refl, unquoted_text-quoted value))
 
-all_again : {X A Y : Type 0} (f : A → Option Y) (g : X → A) (h : X → Y) → ((x : X) → f (g x) ≡ Some (h x)) → (xs : List X) → all_or_none (map f (map g xs)) ≡ Some (map h xs)
-all_again f g h each [] = refl
-all_again f g h each (x ∷ xs) = λ i. option_and_then (λ y. option_map (λ ys. y ∷ ys) (all_again f g h each xs i)) (each x i)
+each_means : {X A : Type 0} (R : A → X → Type 0) (g : X → A) → ((x : X) → R (g x) x) → (xs : List X) → AllZip R (map g xs) xs
+each_means R g each [] = tt
+each_means R g each (x ∷ xs) = (each x, each_means R g each xs)
 
 -- what is joined by a token is split where it is
 split_joined : {X : Type 0} (p : Token → Bool) (g : X → List Token) (t : Token) → p t ≡ true → ((x : X) → All (λ k. p k ≡ false) (g x)) → (x : X) (xs : List X)
@@ -90,21 +87,77 @@ group_without_or (c ∷ cs) = All-append (IsNo T_LOR) (matcher_tokens c) (more c
     rest (d ∷ ds) =
         All-append (IsNo T_LOR) ((T_COMMA, codes ",") ∷ matcher_tokens d) (more ds) (All-cons (IsNo T_LOR) (T_COMMA, codes ",") (matcher_tokens d) refl (matcher_without_or d)) (rest ds)
 
-group_again : (cs : List PlainMatcher) → read_group (group_tokens cs) ≡ Some (map parts_of cs)
-group_again [] = refl
-group_again (plain_matcher op name value ∷ cs) =
-    let c = plain_matcher op name value in
-    ap (λ parts. all_or_none (map read_matcher parts)) (split_joined (λ k. k.0 == T_COMMA) matcher_tokens (T_COMMA, codes ",") refl matcher_without_comma c cs)
-    ∙ all_again read_matcher matcher_tokens parts_of matcher_again (c ∷ cs)
+group_means : (cs : List PlainMatcher) → MeanGroup (group_tokens cs) cs
+group_means [] = inl (refl, refl)
+group_means (c ∷ cs) =
+    inr (subst (λ parts. AllZip MeanMatcher parts (c ∷ cs)) (sym (split_joined (λ k. k.0 == T_COMMA) matcher_tokens (T_COMMA, codes ",") refl matcher_without_comma c cs))
+    (each_means MeanMatcher matcher_tokens matcher_means (c ∷ cs)))
 
-groups_again : (g : List PlainMatcher) (gs : List (List PlainMatcher)) → read_groups (join_by group_tokens ((T_LOR, codes "or") ∷ []) (g ∷ gs)) ≡ Some (map (map parts_of) (g ∷ gs))
-groups_again g gs =
-    ap (λ parts. all_or_none (map read_group parts)) (split_joined (λ k. k.0 == T_LOR) group_tokens (T_LOR, codes "or") refl group_without_or g gs)
-    ∙ all_again read_group group_tokens (map parts_of) group_again (g ∷ gs)
+groups_mean : (g : List PlainMatcher) (gs : List (List PlainMatcher)) → MeanGroups (join_by group_tokens ((T_LOR, codes "or") ∷ []) (g ∷ gs)) (g ∷ gs)
+groups_mean g gs =
+    subst (λ parts. AllZip MeanGroup parts (g ∷ gs)) (sym (split_joined (λ k. k.0 == T_LOR) group_tokens (T_LOR, codes "or") refl group_without_or g gs))
+    (each_means MeanGroup group_tokens group_means (g ∷ gs))
 
-pub matchers_again : (cs : PlainMatchers) → read_groups (matchers_tokens cs) ≡ Some (map (map parts_of) (printed_groups cs))
-matchers_again (plain_matchers plain []) = groups_again (sorted_matchers plain) []
-matchers_again (plain_matchers plain (g ∷ gs)) = groups_again g gs
+pub tokens_mean : (cs : PlainMatchers) → MeanGroups (matchers_tokens cs) (printed_groups cs)
+tokens_mean (plain_matchers plain []) = groups_mean (sorted_matchers plain) []
+tokens_mean (plain_matchers plain (g ∷ gs)) = groups_mean g gs
+
+pub tokens_read : (cs : PlainMatchers)
+    → (ts : List (ℕ × Text)) × MeanGroups ts (printed_groups cs) × ((depth : ℕ) (r : Text) → pieces (inside depth) (matchers_text cs ++ r) ≡ map (λ t. Ok t) ts ++ pieces (inside depth) r)
+tokens_read cs = (matchers_tokens cs, tokens_mean cs, λ depth r. matchers_read depth cs r)
+
+-- ---- tokens mean one thing only
+
+one_string : (t : Token) (r s : Text) → IsString t r → IsString t s → r ≡ s
+one_string t r s a b = let same : Some r ≡ Some s = sym a.1 ∙ b.1 in cc
+
+one_name : (t : Token) (a b : Text) → (t ≡ (T_IDENTIFIER, a)) ⊎ IsString t a → (t ≡ (T_IDENTIFIER, b)) ⊎ IsString t b → a ≡ b
+one_name t a b (inl p) (inl q) = ap (λ k. k.1) (sym p ∙ q)
+one_name t a b (inl p) (inr q) = absurd (omega (arith, ap (λ k. k.0) p, q.0))
+one_name t a b (inr p) (inl q) = absurd (omega (arith, ap (λ k. k.0) q, p.0))
+one_name t a b (inr p) (inr q) = one_string t a b p q
+
+one_matcher : (ts : List Token) (c d : PlainMatcher) → MeanMatcher ts c → MeanMatcher ts d → parts_of c ≡ parts_of d
+one_matcher (n ∷ o ∷ v ∷ []) (plain_matcher op name value) (plain_matcher oq other w) a b =
+    let operators = sym a.1 ∙ b.1 in
+    let names = one_name n name other a.0 b.0 in
+    let values = one_string v value w a.2 b.2 in
+    λ i. (operators i, names i, values i)
+one_matcher _ c d a b = absurd a
+
+-- what one part means one way, a list of parts does
+one_list : {A X Y : Type 0} (R : A → X → Type 0) (f : X → Y) → ((a : A) (x y : X) → R a x → R a y → f x ≡ f y) → (parts : List A) (xs ys : List X) → AllZip R parts xs → AllZip R parts ys → map f xs ≡ map f ys
+one_list R f each [] [] [] h k = refl
+one_list R f each [] [] (y ∷ ys) h k = absurd k
+one_list R f each [] (x ∷ xs) ys h k = absurd h
+one_list R f each (a ∷ parts) [] ys h k = absurd h
+one_list R f each (a ∷ parts) (x ∷ xs) [] h k = absurd k
+one_list R f each (a ∷ parts) (x ∷ xs) (y ∷ ys) h k = ap₂ (λ z zs. z ∷ zs) (each a x y h.0 k.0) (one_list R f each parts xs ys h.1 k.1)
+
+-- no matcher has no tokens
+no_matchers : (ts : List Token) (cs : List PlainMatcher) → ts ≡ [] → AllZip MeanMatcher (slice_split (λ t. t.0 == T_COMMA) ts) cs → ⊥
+no_matchers [] [] e h = h
+no_matchers [] (c ∷ cs) e h = h.0
+no_matchers (t ∷ ts) cs e h = absurd (cc)
+
+one_group : (ts : List Token) (cs ds : List PlainMatcher) → MeanGroup ts cs → MeanGroup ts ds → map parts_of cs ≡ map parts_of ds
+one_group ts cs ds (inl p) (inl q) = ap (map parts_of) (p.1 ∙ sym q.1)
+one_group ts cs ds (inl p) (inr q) = absurd (no_matchers ts ds p.0 q)
+one_group ts cs ds (inr p) (inl q) = absurd (no_matchers ts cs q.0 p)
+one_group ts cs ds (inr p) (inr q) = one_list MeanMatcher parts_of one_matcher (slice_split (λ t. t.0 == T_COMMA) ts) cs ds p q
+
+pub one_meaning : (ts : List (ℕ × Text)) (gs hs : List (List PlainMatcher)) → MeanGroups ts gs → MeanGroups ts hs → map (map parts_of) gs ≡ map (map parts_of) hs
+one_meaning ts = one_list MeanGroup (map parts_of) one_group (slice_split (λ t. t.0 == T_LOR) ts)
+
+-- ---- tokens mean what a list prints
+
+some_group : (parts : List (List Token)) → 0 < length parts → (gs : List (List PlainMatcher)) → AllZip MeanGroup parts gs → (cs : PlainMatchers) × (printed_groups cs ≡ gs)
+some_group [] some gs h = absurd (omega (arith, some))
+some_group (part ∷ parts) some [] h = absurd h
+some_group (part ∷ parts) some (g ∷ gs) h = (plain_matchers [] (g ∷ gs), refl)
+
+pub nothing_else : (ts : List (ℕ × Text)) (gs : List (List PlainMatcher)) → MeanGroups ts gs → (cs : PlainMatchers) × (printed_groups cs ≡ gs)
+nothing_else ts = some_group (slice_split (λ t. t.0 == T_LOR) ts) (omega (arith, length-slice_split (λ (t : Token). t.0 == T_LOR) ts))
 
 -- a matcher that was built of an id, a name and a value has these parts
 pub parts_built : (id : ℕ) (name value : Text) (c : PlainMatcher) → IsMatcherOf id name value c → parts_of c ≡ (id, name, value)
@@ -112,6 +165,8 @@ parts_built id name value (plain_matcher equal n v) h = λ i. (sym h.0 i, h.1 i,
 parts_built id name value (plain_matcher not_equal n v) h = λ i. (sym h.0 i, h.1 i, h.2 i)
 parts_built id name value (plain_matcher (matches w) n v) h = λ i. (sym h.0.0 i, h.1 i, h.2 i)
 parts_built id name value (plain_matcher (matches_not w) n v) h = λ i. (sym h.0.0 i, h.1 i, h.2 i)
+
+-- ---- lists that print alike
 
 abbrev tokens_of : List ScannedText → List Token
 tokens_of [] = []
@@ -127,5 +182,4 @@ alike cs ds same =
     let end = pieces (inside 0) [] in
     let read = append_cancel_right _ _ end (sym (matchers_read 0 cs []) ∙ ap (λ s. pieces (inside 0) (s ++ [])) same ∙ matchers_read 0 ds []) in
     let tokens : matchers_tokens cs ≡ matchers_tokens ds = sym (tokens_again (matchers_tokens cs)) ∙ ap tokens_of read ∙ tokens_again (matchers_tokens ds) in
-    let again = sym (matchers_again cs) ∙ ap read_groups tokens ∙ matchers_again ds in
-    cc
+    one_meaning (matchers_tokens ds) (printed_groups cs) (printed_groups ds) (subst (λ ts. MeanGroups ts (printed_groups cs)) tokens (tokens_mean cs)) (tokens_mean ds)

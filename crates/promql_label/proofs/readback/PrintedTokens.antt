@@ -16,7 +16,8 @@ use Rattle.promql_token.proofs.printed.ValueTokens.{joins_quoted}
 use Rattle.promql_token.proofs.one_reading.Steps.{pieces_run}
 use Rattle.promql_label.specs.PlainMatchers.{Operator, equal, not_equal, matches, matches_not, PlainMatcher, plain_matcher, PlainMatchers, plain_matchers, group_text, matcher_text, matchers_text, name_text, operator_text}
 use Rattle.promql_label.specs.SortedTexts.{insert_text, sorted_texts, text_order}
-use Rattle.promql_label.specs.ReadMatchers.{Token, inside, insert_matcher, sorted_matchers, name_token, operator_id, matcher_tokens, group_tokens, matchers_tokens}
+use Rattle.promql_label.specs.ReadMatchers.{insert_matcher, sorted_matchers, operator_id}
+use Rattle.promql_label.proofs.readback.MatcherTokens.{Token, inside, name_token, matcher_tokens, group_tokens, matchers_tokens}
 
 abbrev scanned_tokens : List Token → List ScannedText
 scanned_tokens ts = map (λ t. Ok t) ts

@@ -1,0 +1,35 @@
+-- The tokens of printed lists of matchers.
+use Rattle.std.specs.Prelude.{ℕ, if◌then◌else◌, List, [], ◌∷◌, codes}
+use Rattle.std.specs.List.{join_by}
+use Rattle.promql_text.specs.Quoting.{quoted_text}
+use Rattle.promql_text.specs.Texts.{Text}
+use Rattle.promql_token.specs.Classes.{is_label}
+use Rattle.promql_token.specs.declared.ids.TheConstants.{T_COMMA, T_IDENTIFIER, T_LOR, T_STRING}
+use Rattle.promql_token.specs.declared.state.Mode.TheVariants as mode
+use Rattle.promql_token.specs.declared.state.State.{State}
+use Rattle.promql_label.specs.PlainMatchers.{PlainMatcher, plain_matcher, PlainMatchers, name_text, operator_text}
+use Rattle.promql_label.specs.ReadMatchers.{operator_id, printed_groups}
+
+-- a token's id and its text
+abbrev pub Token : Type 0
+Token = ℕ × Text
+
+-- in braces, with so many parentheses open
+abbrev pub inside : ℕ → State
+inside depth = record { depth = depth; mode = mode.Braces }
+
+-- a name, an operator and a value
+abbrev pub name_token : Text → Token
+name_token name = (if is_label name then T_IDENTIFIER else T_STRING, name_text name)
+
+abbrev pub matcher_tokens : PlainMatcher → List Token
+matcher_tokens (plain_matcher op name value) =
+    name_token name ∷ (operator_id op, operator_text op) ∷ (T_STRING, quoted_text value) ∷ []
+
+-- a comma between each two matchers
+abbrev pub group_tokens : List PlainMatcher → List Token
+group_tokens = join_by matcher_tokens ((T_COMMA, codes ",") ∷ [])
+
+-- `or` between each two groups
+abbrev pub matchers_tokens : PlainMatchers → List Token
+matchers_tokens cs = join_by group_tokens ((T_LOR, codes "or") ∷ []) (printed_groups cs)
