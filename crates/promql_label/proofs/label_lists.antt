@@ -1,4 +1,5 @@
 -- Lists of labels and of matchers, a file a topic.
+pub mod Appended
 pub mod CommonLabels
 pub mod LabelPrintedLen
 pub mod LabelSets

@@ -6,15 +6,12 @@ use Rattle.promql_label.specs.Answers.{Allows, built}
 use Rattle.promql_label.specs.PlainMatchers.{Operator, equal, not_equal, matches, matches_not, PlainMatcher, plain_matcher}
 use Rattle.promql_text.specs.Texts.{Text}
 
--- the ids that compare with a text, and those that compare by a pattern
-abbrev pub is_text_id : ℕ → Bool
-is_text_id = is_one_of (T_EQL ∷ T_NEQ ∷ [])
-
+-- the ids that compare by a pattern, and those that compare with a text, or so
 abbrev pub is_pattern_id : ℕ → Bool
 is_pattern_id = is_one_of (T_EQL_REGEX ∷ T_NEQ_REGEX ∷ [])
 
 abbrev pub is_operator_id : ℕ → Bool
-is_operator_id id = is_text_id id || is_pattern_id id
+is_operator_id id = is_one_of (T_EQL ∷ T_NEQ ∷ []) id || is_pattern_id id
 
 -- the operator is the id's, and a pattern in it is one that is allowed for the value
 abbrev pub OperatorOf : ℕ → Text → Operator → Type 0

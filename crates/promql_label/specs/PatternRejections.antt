@@ -1,13 +1,8 @@
 -- Why no pattern is built: docs/reference/matchers.md, "Patterns".
-use Rattle.std.specs.Prelude.{◌≡◌, Option, Some, None, string_bytes}
+use Rattle.std.specs.Prelude.{Option, Some, None, string_bytes}
 use Rattle.promql_label.specs.declared.pattern.PatternFault.{PatternFault}
 use Rattle.promql_label.specs.declared.pattern.PatternFault.TheVariants.{Memory, Refused}
 use Rattle.promql_text.specs.Texts.{Text}
-
--- the fault hands back the text, and its rejection is allowed; of memory nothing is said
-abbrev pub IsRejected : Text → Type 0 → PatternFault → Type 0
-IsRejected text Allowed Memory = Unit {0}
-IsRejected text Allowed (Refused s) = (string_bytes s ≡ text) × Allowed
 
 -- a fault as plain data: the rejected value, or nothing where memory ran out
 abbrev pub rejected_value : PatternFault → Option Text

@@ -30,11 +30,16 @@ opens_count z =
 abbrev pub is_literal_brace : ℕ → Text → Bool
 is_literal_brace b z = b == 123 && not (opens_count z)
 
+-- "Repetitions": the escaped form of a pattern, from a place on where `taken` says whether a backslash takes the next byte
+abbrev pub backslashed : Bool → Text → Text
+backslashed taken [] = []
+backslashed taken (b ∷ z) = (if not taken && is_literal_brace b z then 92 ∷ [] else []) ++ (b ∷ backslashed (not taken && b == 92) z)
+
 -- a byte before z, with a backslash if it is loose
 abbrev pub with_backslash : ℕ → Text → Text
 with_backslash b z = if is_literal_brace b z then 92 ∷ b ∷ [] else b ∷ []
 
--- "Repetitions": the escaped form of a pattern. A backslash stays, and so does the byte after it.
+-- the escaped form as it is computed: the law `places_of_backslashes`. A backslash stays, and so does the byte after it.
 abbrev pub escaped_repeats : Text → Text
 escaped_repeats [] = []
 escaped_repeats (b ∷ []) = with_backslash b []

@@ -2,20 +2,21 @@
 
 ghost use Rattle.regex.specs.Patterns.{default_config};
 ghost use Rattle.regex_syntax.specs.Grammar.{read};
-ghost use Rattle.std.specs.Prelude.{◌≡◌, ◌≢◌, ◌↔◌, ◌<◌, ◌≤◌, ◌++◌, ℕ, [], List, IsSomeAnd, IsTrue, Ok, Some, chars, codes, false, length, map, true};
-ghost use Rattle.std.specs.List.{list_any, AllPairs, Contains};
+ghost use Rattle.std.specs.Prelude.{◌≡◌, ◌≢◌, ◌↔◌, ◌<◌, ◌≤◌, ◌++◌, ◌∷◌, ℕ, [], List, IsSomeAnd, IsTrue, Ok, Some, chars, codes, false, length, map, true};
+ghost use Rattle.std.specs.List.{list_any, position_or_len, AllPairs, Contains};
+ghost use Rattle.std.specs.Str.{bytes_eq};
 ghost use Rattle.std.specs.List.Sorted.{IsSortedByKey, IsStableByKey};
 ghost use Rattle.promql_text.specs.Texts.{Text};
-ghost use Rattle.promql_label.specs.Answers.{Allows, anchor, Answer, has_one_answer, IsReadPair, pattern_answer};
+ghost use Rattle.promql_label.specs.Answers.{Allows, anchor, Answer, has_one_answer, is_read_pair, pattern_answer};
 ghost use Rattle.promql_label.specs.Labels.{common, is_among, is_number_word, label_text, labels_of};
-ghost use Rattle.promql_label.specs.LabelLaws.{first_index, label_of};
+ghost use Rattle.promql_label.specs.LabelLaws.{label_of};
 ghost use Rattle.promql_label.specs.MatcherRows.{WorkedLists};
 ghost use Rattle.promql_label.specs.Operators.{IsMatcherOf};
-ghost use Rattle.promql_label.specs.PatternSize.{size, weight};
+ghost use Rattle.promql_label.specs.PatternSize.{is_small, size, weight};
 ghost use Rattle.promql_label.specs.PlainPatterns.{is_plain};
-ghost use Rattle.promql_label.specs.PlainMatchers.{PlainMatcher, PlainMatchers, matcher_text, matchers_text, name_text};
+ghost use Rattle.promql_label.specs.PlainMatchers.{PlainMatcher, PlainMatchers, append_plain, matcher_text, matchers_text, name_text, plain_matchers};
 ghost use Rattle.promql_label.specs.ReadMatchers.{MeanGroups, parts_of, printed_groups, sorted_matchers};
-ghost use Rattle.promql_label.specs.Repeats.{escaped_repeats, opens_count, OpensCount};
+ghost use Rattle.promql_label.specs.Repeats.{backslashed, escaped_repeats, opens_count, OpensCount};
 ghost use Rattle.promql_label.specs.RepeatPlaces.{bytes_from};
 ghost use Rattle.promql_label.specs.SortedTexts.{sorted_texts, text_order};
 ghost use Rattle.promql_token.specs.Lexing.{pieces};
@@ -47,14 +48,15 @@ pub fn common_labels_are_distinct()
 /// The common labels come in the order in which the first list has them first.
 pub fn common_labels_keep_their_order()
     ensures { (ls others : List Text)
-        → AllPairs (λ l k. first_index ls l < first_index ls k) (common ls others) }
+        → AllPairs (λ l k. position_or_len (bytes_eq l) ls < position_or_len (bytes_eq k) ls)
+        (common ls others) }
 {}
 
 /// No other list has these labels in this order.
 pub fn common_labels_are_one_list()
     ensures { (ls others both : List Text)
         → ((l : Text) → Contains both l ↔ (Contains ls l × Contains others l))
-        → AllPairs (λ l k. first_index ls l < first_index ls k) both
+        → AllPairs (λ l k. position_or_len (bytes_eq l) ls < position_or_len (bytes_eq k) ls) both
         → both ≡ common ls others }
 {}
 
@@ -102,6 +104,15 @@ pub fn printed_matchers_read_back()
     ensures worked { WorkedLists }
 {}
 
+/// Appending puts the matcher after those of the last group; without groups, after the plain ones.
+pub fn appended_matchers()
+    ensures grouped { (plain g : List PlainMatcher) (groups : List (List PlainMatcher)) (c : PlainMatcher)
+        → append_plain (plain_matchers plain (groups ++ g ∷ [])) c
+        ≡ plain_matchers plain (groups ++ (g ++ c ∷ []) ∷ []) }
+    ensures plain { (plain : List PlainMatcher) (c : PlainMatcher)
+        → append_plain (plain_matchers plain []) c ≡ plain_matchers (plain ++ c ∷ []) [] }
+{}
+
 /// A count, as the rules have it, comes before a text exactly if the test of `escape_repeats` says
 /// so.
 pub fn counts()
@@ -111,7 +122,8 @@ pub fn counts()
 /// The escaped form of a pattern is its bytes in order, with a backslash before each `{` that no
 /// backslash takes and after which no count comes.
 pub fn places_of_backslashes()
-    ensures { (z : Text) → escaped_repeats z ≡ bytes_from z 0 (length z) }
+    ensures bytes { (z : Text) → escaped_repeats z ≡ backslashed false z }
+    ensures places { (z : Text) → escaped_repeats z ≡ bytes_from z 0 (length z) }
 {}
 
 /// Lists of labels are equal exactly if they have the same texts in the same order.
@@ -153,15 +165,18 @@ pub fn small_patterns_have_one_answer()
 
 /// Plain patterns are read, by themselves and anchored.
 pub fn plain_patterns_are_read()
-    ensures { (v : Text) → is_plain v ≡ true → IsReadPair v }
+    ensures { (v : Text) → is_plain v ≡ true → is_read_pair v ≡ true }
 {}
 
-/// What the grammar reads in a plain pattern, by itself and anchored, weighs no more than the pattern's size.
+/// What the grammar reads in a plain pattern, by itself and anchored, weighs no more than the pattern's size; that of a small one,
+/// anchored, weighs at most 1,000.
 pub fn plain_patterns_weigh_their_size_at_most()
     ensures alone { (v : Text) → is_plain v ≡ true
         → IsSomeAnd (read default_config (chars v)) (λ p. weight p.0.value ≤ size v) }
     ensures anchored { (v : Text) → is_plain v ≡ true
         → IsSomeAnd (read default_config (chars (anchor v))) (λ p. weight p.0.value ≤ size v) }
+    ensures small { (v : Text) → is_small v ≡ true
+        → IsSomeAnd (read default_config (chars (anchor v))) (λ p. weight p.0.value ≤ 1000) }
 {}
 
 /// What is fed to a hasher: of labels their texts, of matchers their operators, names and values, of a

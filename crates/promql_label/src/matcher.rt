@@ -4,7 +4,7 @@ ghost use Rattle.std.specs.Prelude.{◌≡◌, ◌↔◌, false, true, IfOk, IfE
 ghost use Rattle.std.specs.Fmt.{WritesStyledOnOk};
 ghost use Rattle.promql_label.specs.PlainMatchers.{plain_matcher, equal, holds, name_text, operator_text};
 ghost use Rattle.promql_label.specs.MatcherErrors.{IsFaultOf};
-ghost use Rattle.promql_label.specs.Operators.{IsMatcherOf, is_operator_id, is_text_id};
+ghost use Rattle.promql_label.specs.Operators.{IsMatcherOf, is_operator_id, is_pattern_id};
 ghost use Rattle.promql_label.specs.MatcherViews.{plain_matcher_of, operator_of};
 
 use crate::METRIC_NAME;
@@ -143,7 +143,7 @@ impl Matcher {
     ) -> Result<Matcher, MatcherError>
         ensures built { IfOk result (λ m.
             IsMatcherOf id (string_bytes name) (string_bytes value) (plain_matcher_of m)) }
-        ensures text { is_text_id id ≡ true → IsOk result }
+        ensures text { is_operator_id id ≡ true → is_pattern_id id ≡ false → IsOk result }
         ensures invalid { IsErrOf result (MatcherError.InvalidOp id) ↔ (is_operator_id id ≡ false) }
         ensures fault { IfErr result (IsFaultOf id (string_bytes value)) }
     {

@@ -3,9 +3,11 @@
 ghost use Rattle.std.specs.Prelude.{◌≡◌, true, false, [], IfOk, IfErr, IfSome, IfNone, string_bytes};
 ghost use Rattle.regex.specs.Patterns.{default_config};
 ghost use Rattle.regex.specs.Strings.{regex_config, regex_source, IsReadFromSource};
-ghost use Rattle.promql_label.specs.PatternRejections.{IsRejected};
+ghost use Rattle.promql_label.specs.PatternRejections.{rejected_value};
 ghost use Rattle.promql_label.specs.Answers as spec;
-ghost use Rattle.promql_label.specs.Answers.{Allows, AllowsBy, Anything, built, finds, IsCompiledFrom, IsRead, IsTriedBy, MayRejectBy, rejected};
+ghost use Rattle.promql_label.specs.Answers.{Allows, built, finds, rejected};
+ghost use Rattle.promql_label.specs.EngineAnswers.{AllowsBy, IsCompiledFrom, IsRead, IsRejected, IsTriedBy, MayRejectBy};
+ghost use Rattle.promql_label.specs.PatternSize as sizes;
 ghost use Rattle.promql_text.specs.Texts.{Text};
 
 use crate::empty_text::matches_empty;
@@ -39,7 +41,7 @@ pub struct Pattern {
 
 impl Model for Pattern {
     ghost use Rattle.std.specs.Prelude.{List, ℕ, IfSome, string_bytes};
-    ghost use Rattle.promql_label.specs.Answers.{IsCompiledFrom, IsRead};
+    ghost use Rattle.promql_label.specs.EngineAnswers.{IsCompiledFrom, IsRead};
 
     ghost Value = { List ℕ };
 
@@ -124,7 +126,7 @@ trait Engine {
 struct RegexCrate;
 
 impl Engine for RegexCrate {
-    ghost use Rattle.promql_label.specs.Answers.{Anything};
+    ghost use Rattle.promql_label.specs.EngineAnswers.{Anything};
 
     ghost rejects = { Anything };
 
@@ -213,7 +215,8 @@ impl Pattern {
     /// `Refused` with the value, where `regex` rejects both; `Memory` if an allocation fails.
     pub fn read(alloc: Global, value: &str) -> Result<Pattern, PatternFault>
         ensures built { IfOk result (λ p. Allows value.now (built p)) }
-        ensures rejected { IfErr result (IsRejected value.now (Allows value.now rejected)) }
+        ensures rejected { IfErr result (λ fault. IfSome (rejected_value fault)
+            (λ s. (s ≡ value.now) × Allows value.now rejected)) }
     {
         read_value(&RegexCrate, alloc, value)
     }
@@ -224,8 +227,9 @@ impl Pattern {
     ///
     /// `Refused` with the text, where `regex` rejects it; `Memory` if an allocation fails.
     pub fn of_text(alloc: Global, text: &str) -> Result<Pattern, PatternFault>
-        ensures built { IfOk result (λ p. (p ≡ text.now) × IsRead text.now) }
-        ensures rejected { IfErr result (IsRejected text.now (MayRejectBy Anything text.now text.now)) }
+        ensures built { IfOk result (λ p. (p ≡ text.now) × (spec.is_read text.now ≡ true)) }
+        ensures rejected { IfErr result (λ fault. IfSome (rejected_value fault)
+            (λ s. (s ≡ text.now) × (sizes.is_small text.now ≡ false))) }
     {
         read_text(&RegexCrate, alloc, text)
     }

@@ -1,7 +1,7 @@
 //! Which patterns are small: docs/reference/matchers.md, "Small patterns".
 
 ghost use Rattle.std.specs.Prelude.{◌≡◌, ◌≤◌, min, true};
-ghost use Rattle.promql_label.specs.Answers.{IsReadPair};
+ghost use Rattle.promql_label.specs.EngineAnswers.{IsReadPair};
 ghost use Rattle.promql_label.specs.PatternSize as spec;
 
 use crate::plain::{After, can_end, next, start};

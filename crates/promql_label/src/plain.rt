@@ -3,7 +3,7 @@
 ghost use Rattle.std.specs.Char.{is_ascii_digit};
 ghost use Rattle.std.specs.Prelude.{◌≡◌, ◌<◌, true};
 ghost use Rattle.promql_label.specs.PlainPatterns as spec;
-ghost use Rattle.promql_label.specs.Answers.{IsReadPair};
+ghost use Rattle.promql_label.specs.EngineAnswers.{IsReadPair};
 
 /// The most groups of a plain pattern.
 const MAX_GROUPS: u8 = 50;

@@ -1,7 +1,7 @@
 -- Which labels two lists have in common, and in which order.
 use Rattle.std.proofs.Common.{◌≡◌, ◌≢◌, ◌↔◌, ℕ, ◌+◌, ◌<◌, Bool, true, false, cond, List, [], ◌∷◌, ◌++◌, length, get_or, map, refl, sym, ap, ◌∙◌, append-nil, string_bytes, Global, arith}
 use Rattle.std.specs.Prelude.{not, ◌&&◌, ◌||◌, if◌then◌else◌, filter}
-use Rattle.std.specs.List.{All, AllPairs, Contains, list_any}
+use Rattle.std.specs.List.{All, AllPairs, Contains, list_any, position_or_len}
 use Rattle.std.specs.Str.{bytes_eq}
 use Rattle.std.specs.declared.string.String.{String}
 use Rattle.std.proofs.lemmas.Cmp.{nat_list_eq_equiv}
@@ -13,7 +13,6 @@ use Rattle.std.proofs.lemmas.Map.Views.{any-filter_same, list_any-from_Contains,
 use Rattle.std.proofs.lemmas.Slice.Eq.{bytes_eq-Decides}
 use Rattle.promql_text.specs.Texts.{Text}
 use Rattle.promql_label.specs.Labels.{is_among, firsts, common}
-use Rattle.promql_label.specs.LabelLaws.{first_index}
 use Rattle.promql_label.proofs.order.OneOrder.{one_order}
 
 -- ---- tests
@@ -181,6 +180,10 @@ other_than l ks k d lt = nat_list_eq_equiv.symm _ l ∙ turn (bytes_eq l _) (fil
     turn : (b : Bool) → not b ≡ true → b ≡ false
     turn true e = absurd (cc)
     turn false e = refl
+
+-- the index at which the text comes first in the list; the list's length if it isn't there
+abbrev first_index : List Text → Text → ℕ
+first_index ls l = position_or_len (bytes_eq l) ls
 
 first_index-later : (l : Text) (ls : List Text) (k : Text) → bytes_eq k l ≡ false → first_index (l ∷ ls) k ≡ 1 + first_index ls k
 first_index-later l ls k e = ap (λ b. cond (not b) (1 + first_index ls k) 0) e

@@ -6,7 +6,7 @@ use Rattle.std.proofs.Math.Seq.{take-append_seam, drop-append_seam, get_or-appen
 use Rattle.std.proofs.lemmas.Bool.{eqb-true, eq-eqb, ne_eqb}
 use Rattle.std.proofs.lemmas.List.{reverse-append}
 use Rattle.promql_text.specs.Texts.{Text}
-use Rattle.promql_label.specs.Repeats.{is_literal_brace, escaped_repeats}
+use Rattle.promql_label.specs.Repeats.{backslashed, is_literal_brace, escaped_repeats}
 use Rattle.promql_label.specs.RepeatPlaces.{byte_at, bytes_from}
 use Rattle.promql_label.proofs.regex_answers.Escaping.{escaped_from, from_start, low_char, mark}
 
@@ -66,6 +66,13 @@ from_place p (b ∷ z) =
     )
     ∙ sym (append_assoc marks (b ∷ []) rest)
     ∙ ap (λ w. w ++ rest) (sym (here p b z))
+
+by_bytes : (taken : Bool) (z : Text) → escaped_from taken z ≡ backslashed taken z
+by_bytes taken [] = refl
+by_bytes taken (b ∷ z) = low_char taken b z ∙ ap (λ t. mark taken b z ++ (b ∷ t)) (by_bytes (not taken && b == 92) z)
+
+pub by_backslashes : (z : Text) → escaped_repeats z ≡ backslashed false z
+by_backslashes z = sym (from_start z) ∙ by_bytes false z
 
 pub by_places : (z : Text) → escaped_repeats z ≡ bytes_from z 0 (length z)
 by_places z = sym (from_start z) ∙ from_place [] z

@@ -1,5 +1,5 @@
 -- What the forms of a value that were tried say of its answer.
-use Rattle.std.proofs.Common.{◌≡◌, ◌≢◌, ◌<◌, ◌≤◌, true, false, Option, Some, None, option_map, unwrap_or, chars, is_some, subst, sym, refl, ap, ◌∙◌, ⊎_elim, Bool, true≢false, le-leb, leb-true, arith}
+use Rattle.std.proofs.Common.{◌≡◌, ◌≢◌, ◌<◌, ◌≤◌, true, false, Option, Some, None, option_map, unwrap_or, chars, is_some, subst, sym, refl, ap, ap₂, ◌&&◌, ◌∙◌, ⊎_elim, Bool, true≢false, le-leb, leb-true, arith}
 use Rattle.std.specs.Prelude.{IfSome, nat_le}
 use Rattle.std.specs.Option.{IsSomeAnd}
 use Rattle.regex_syntax.specs.Brackets.{Nested}
@@ -10,7 +10,8 @@ use Rattle.regex.specs.Patterns.{Re, Reads, Refuses, default_config}
 use Rattle.regex.specs.Names.{names_of}
 use Rattle.regex.specs.Strings.{regex_source}
 use Rattle.regex.specs.declared.string.regex.Regex.{Regex}
-use Rattle.promql_label.specs.Answers.{AllowsBy, anchor, as_it_is, built, by_escaping, is_read, IsCompiledFrom, IsTriedBy, MayRejectBy, neither, rejected}
+use Rattle.promql_label.specs.Answers.{Allows, anchor, Answer, as_it_is, built, by_escaping, is_read, is_read_pair, neither, rejected}
+use Rattle.promql_label.specs.EngineAnswers.{AllowsBy, by_itself, by_its_escaped, by_none, IsCompiledFrom, IsReadPair, IsRejected, IsTriedBy, MayRejectBy}
 use Rattle.promql_label.specs.Repeats.{escaped_repeats}
 use Rattle.promql_text.specs.Texts.{Text}
 
@@ -21,15 +22,24 @@ module _ (Rejects : Text → Type 0) where
   pub read_as_it_is : (v w : Text) (o : Option Text) → o ≡ Some w → IsTriedBy Rejects v o → AllowsBy Rejects v (built w)
   read_as_it_is v w o is tried =
       let read : IsTriedBy Rejects v (Some w) = subst (IsTriedBy Rejects v) is tried in
-      subst (λ w. AllowsBy Rejects v (built w)) (sym read.0) (as_it_is v read.1)
+      subst (λ w. AllowsBy Rejects v (built w)) (sym read.0) (by_itself v read.1)
 
   pub read_escaped : (v u w : Text) (o : Option Text) → MayRejectBy Rejects v (anchor v) → u ≡ escaped_repeats v → o ≡ Some w → IsTriedBy Rejects u o → AllowsBy Rejects v (built w)
   read_escaped v u w o rejects form is tried =
       let read = tried_as u (escaped_repeats v) o (Some w) is form tried in
-      subst (λ w. AllowsBy Rejects v (built w)) (sym read.0) (by_escaping v rejects read.1)
+      subst (λ w. AllowsBy Rejects v (built w)) (sym read.0) (by_its_escaped v rejects read.1)
 
   pub rejected_twice : (v u : Text) (o : Option Text) → MayRejectBy Rejects v (anchor v) → u ≡ escaped_repeats v → o ≡ None → IsTriedBy Rejects u o → AllowsBy Rejects v rejected
-  rejected_twice v u o rejects form is tried = neither v rejects (tried_as u (escaped_repeats v) o None is form tried)
+  rejected_twice v u o rejects form is tried = by_none v rejects (tried_as u (escaped_repeats v) o None is form tried)
+
+pub pair_read : (u : Text) → IsReadPair u → is_read_pair u ≡ true
+pair_read u h = ap₂ (λ a b. a && b) h.0 h.1
+
+-- what is allowed by some engine is allowed
+pub allowed : (Rejects : Text → Type 0) (v : Text) (a : Answer) → AllowsBy Rejects v a → Allows v a
+allowed Rejects v a (by_itself _ read) = as_it_is v (pair_read v read)
+allowed Rejects v a (by_its_escaped _ rejects read) = by_escaping v rejects.0 (pair_read (escaped_repeats v) read)
+allowed Rejects v a (by_none _ rejects again) = neither v rejects.0 again.0
 
 -- what the grammar reads is nested no deeper than its limit
 pub read_within_limit : (w : Text) (P : Nested Re × Names → Type 0) → ((p : Nested Re × Names) → P p → p.0.depth ≤ default_config.nest_limit)

@@ -2,11 +2,13 @@
 use Rattle.std.proofs.Common.{◌≡◌, Bool, true, false, not, ◌&&◌, ◌||◌, cond, refl, sym, ap, ap₂, ◌∙◌, ⊎_elim, inr, true≢false}
 use Rattle.std.proofs.lemmas.Bool.{and_parts, cases_Bool, not-true}
 use Rattle.promql_text.specs.Texts.{Text}
-use Rattle.promql_label.specs.Answers.{Answer, Allows, Anything, anchor, as_it_is, built, by_escaping, has_one_answer, is_read, is_read_pair, IsReadPair, MayRejectBy, neither, pattern_answer, rejected}
+use Rattle.promql_label.specs.Answers.{Answer, Allows, anchor, as_it_is, built, by_escaping, has_one_answer, is_read_pair, neither, pattern_answer, rejected}
+use Rattle.promql_label.specs.EngineAnswers.{IsReadPair}
 use Rattle.promql_label.specs.PatternSize.{is_small, size}
 use Rattle.promql_label.specs.PlainPatterns.{is_plain}
 use Rattle.promql_label.specs.Repeats.{escaped_repeats}
 use Rattle.promql_label.proofs.plain_patterns.PlainPatternsRead.{plain_pair_is_read}
+use Rattle.promql_label.proofs.regex_answers.Reading.{pair_read}
 use Rattle.std.specs.Prelude.{nat_le}
 
 pub small_is_plain : (u : Text) → is_small u ≡ true → is_plain u ≡ true
@@ -15,21 +17,13 @@ small_is_plain u small = (and_parts (is_plain u) (nat_le (size u) 1000) small).0
 pub small_pair_is_read : (u : Text) → is_small u ≡ true → IsReadPair u
 small_pair_is_read u small = plain_pair_is_read u (small_is_plain u small)
 
-pair_read : (u : Text) → IsReadPair u → is_read_pair u ≡ true
-pair_read u h = ap₂ (λ a b. a && b) h.0 h.1
-
-is_pair : (u : Text) → is_read_pair u ≡ true → IsReadPair u
-is_pair u h = and_parts (is_read u) (is_read (anchor u)) h
-
 -- what is not read is not small
-pair_may_reject : (u : Text) → is_read_pair u ≡ false → MayRejectBy Anything u (anchor u)
-pair_may_reject u none = (
-  ⊎_elim
-      (λ (small : is_small u ≡ true). absurd (true≢false (sym (pair_read u (small_pair_is_read u small)) ∙ none)))
-      (λ (large : is_small u ≡ false). large)
-      (cases_Bool (is_small u)),
-  inr tt,
-)
+pair_not_small : (u : Text) → is_read_pair u ≡ false → is_small u ≡ false
+pair_not_small u none =
+    ⊎_elim
+    (λ (small : is_small u ≡ true). absurd (true≢false (sym (pair_read u (small_pair_is_read u small)) ∙ none)))
+    (λ (large : is_small u ≡ false). large)
+    (cases_Bool (is_small u))
 
 -- ---- the computed answer
 
@@ -40,32 +34,32 @@ answer_escaped : (v : Text) → is_read_pair v ≡ false → pattern_answer v �
 answer_escaped v h = ap (λ b. cond b (built (anchor v)) (cond (is_read_pair (escaped_repeats v)) (built (anchor (escaped_repeats v))) rejected)) h
 
 -- a form that may be rejected is not read, where it is small or not read
-undecided : (u : Text) → (is_small u || not (is_read_pair u)) ≡ true → MayRejectBy Anything u (anchor u) → is_read_pair u ≡ false
-undecided u one rejects = not-true (is_read_pair u) (ap (λ b. b || not (is_read_pair u)) (sym rejects.0) ∙ one)
+undecided : (u : Text) → (is_small u || not (is_read_pair u)) ≡ true → is_small u ≡ false → is_read_pair u ≡ false
+undecided u one rejects = not-true (is_read_pair u) (ap (λ b. b || not (is_read_pair u)) (sym rejects) ∙ one)
 
 -- where the value may be rejected and has one answer, no form that may be rejected is read
-not_read : (v : Text) → has_one_answer v ≡ true → MayRejectBy Anything v (anchor v)
-    → (is_read_pair v ≡ false) × (MayRejectBy Anything (escaped_repeats v) (anchor (escaped_repeats v)) → is_read_pair (escaped_repeats v) ≡ false)
+not_read : (v : Text) → has_one_answer v ≡ true → is_small v ≡ false
+    → (is_read_pair v ≡ false) × (is_small (escaped_repeats v) ≡ false → is_read_pair (escaped_repeats v) ≡ false)
 not_read v one rejects =
     let e = escaped_repeats v in
     let both = and_parts (not (is_read_pair v)) (is_small e || not (is_read_pair e))
-    (ap (λ b. b || not (is_read_pair v) && (is_small e || not (is_read_pair e))) (sym rejects.0) ∙ one) in
+    (ap (λ b. b || not (is_read_pair v) && (is_small e || not (is_read_pair e))) (sym rejects) ∙ one) in
     (not-true (is_read_pair v) both.0, undecided e both.1)
 
 pub allowed_is_answer : (v : Text) → has_one_answer v ≡ true → (a : Answer) → Allows v a → a ≡ pattern_answer v
-allowed_is_answer v one a (as_it_is _ read) = sym (answer_as_read v (pair_read v read))
+allowed_is_answer v one a (as_it_is _ read) = sym (answer_as_read v read)
 allowed_is_answer v one a (by_escaping _ rejects read) =
     let e = escaped_repeats v in
-    sym (answer_escaped v (not_read v one rejects).0 ∙ ap (λ b. cond b (built (anchor e)) rejected) (pair_read e read))
+    sym (answer_escaped v (not_read v one rejects).0 ∙ ap (λ b. cond b (built (anchor e)) rejected) read)
 allowed_is_answer v one a (neither _ rejects again) =
     let e = escaped_repeats v in
     let none = not_read v one rejects in
     sym (answer_escaped v none.0 ∙ ap (λ b. cond b (built (anchor e)) rejected) (none.1 again))
 
 answer_allowed_by : (v : Text) (p q : Bool) → is_read_pair v ≡ p → is_read_pair (escaped_repeats v) ≡ q → Allows v (cond p (built (anchor v)) (cond q (built (anchor (escaped_repeats v))) rejected))
-answer_allowed_by v true q a b = as_it_is v (is_pair v a)
-answer_allowed_by v false true a b = by_escaping v (pair_may_reject v a) (is_pair (escaped_repeats v) b)
-answer_allowed_by v false false a b = neither v (pair_may_reject v a) (pair_may_reject (escaped_repeats v) b)
+answer_allowed_by v true q a b = as_it_is v a
+answer_allowed_by v false true a b = by_escaping v (pair_not_small v a) b
+answer_allowed_by v false false a b = neither v (pair_not_small v a) (pair_not_small (escaped_repeats v) b)
 
 -- the answer is allowed, of each pattern
 pub answer_is_allowed : (v : Text) → Allows v (pattern_answer v)

@@ -1,4 +1,4 @@
-use Rattle.std.proofs.Common.{◌≡◌, ◌∙◌, ap, string_bytes, sym, arith}
+use Rattle.std.proofs.Common.{◌∙◌, ap, string_bytes, sym, arith}
 use Rattle.promql_label.specs.LabelRows.{label_texts}
 use Rattle.promql_label.specs.Labels.{is_among}
 use Rattle.promql_label.proofs.order.LabelRows.{label_met, label_missed, labels_end}

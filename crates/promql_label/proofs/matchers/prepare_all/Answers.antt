@@ -1,4 +1,4 @@
-use Rattle.std.proofs.Common.{◌≡◌, ◌<◌, ◌∙◌, length, rules}
+use Rattle.std.proofs.Common.{◌∙◌, rules}
 use Rattle.promql_label.specs.MatcherViews.{plain_matcher_of}
 use Rattle.promql_label.proofs.label_lists.PlacesSet.{map_after_set}
 use Rattle.promql_label.proofs.matchers.prepare_all.Goals as goal

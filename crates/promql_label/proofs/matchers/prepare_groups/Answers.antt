@@ -1,4 +1,4 @@
-use Rattle.std.proofs.Common.{◌≡◌, ◌<◌, ◌∙◌, Vec, List, ap, arith, length, map, rules, slice_index_or, sym}
+use Rattle.std.proofs.Common.{◌≡◌, ◌∙◌, Vec, List, ap, arith, length, map, rules, slice_index_or, sym}
 use Rattle.std.proofs.lemmas.List.{length-map, with_items_is}
 use Rattle.std.specs.Vec.{with_items}
 use Rattle.promql_label.specs.MatcherViews.{plain_matcher_of}

@@ -1,12 +1,11 @@
-use Rattle.std.proofs.Common.{◌≡◌, ◌<◌, ◌-◌, ◌++◌, true, List, append_assoc, drop, length, map, refl, subst, sym, take, ap, ◌∙◌, arith}
+use Rattle.std.proofs.Common.{◌≡◌, ◌<◌, ◌-◌, ◌++◌, true, append_assoc, drop, length, map, refl, subst, sym, take, ap, ◌∙◌, arith}
 use Rattle.std.proofs.Output.{has_written_styled_append}
 use Rattle.std.proofs.lemmas.List.{length-map, length-take-le}
 use Rattle.std.specs.List.{filter}
 use Rattle.std.specs.Option.{is_some}
-use Rattle.promql_text.specs.Texts.{Text}
 use Rattle.promql_label.specs.NextText.{again, is_above, last_of, row_texts, text_of, text_of_some, texts_after}
 use Rattle.promql_label.specs.SortedTexts.{sorted_texts}
-use Rattle.promql_label.proofs.order.PrintedTexts.{IsLeft, IsPass, above_fits, all_left, joined_is, nothing_left, pass_is, pass_text, some_text}
+use Rattle.promql_label.proofs.order.PrintedTexts.{IsLeft, above_fits, all_left, joined_is, nothing_left, pass_is, pass_text, some_text}
 use Rattle.promql_text.proofs.writing.Writing.{writing_flush, writing_more, writing_start, writing_end}
 use Rattle.promql_label.proofs.sorted.write_in_passes.Goals as goal
 
