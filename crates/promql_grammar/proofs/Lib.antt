@@ -2,6 +2,8 @@ pub mod GrammarChoices
 pub mod Complete
 pub mod KnownKinds
 pub mod Precedences
+pub mod Levels
+pub mod KindUses
 pub mod CompleteParts
 pub mod SameTokenKinds
 pub mod SoundParts

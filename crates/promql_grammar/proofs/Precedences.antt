@@ -161,7 +161,7 @@ pub root_base : (m : ℕ) (d : Derivation) → IsBase d → Root m d
 root_base m (binary q t w a b) h = absurd h
 root_base m d h = tt
 
-open_base : (d : Derivation) → IsBase d → openness d ≡ 7
+pub open_base : (d : Derivation) → IsBase d → openness d ≡ 7
 open_base (binary q t w a b) h = absurd h
 open_base (unary q t d) h = absurd h
 open_base d h = refl

@@ -46,7 +46,7 @@ abbrev mutual
   yield_arguments before none = punct kind.RightParen ∷ []
   yield_arguments before (more d ds) = before ++ (yield d ++ yield_arguments (punct kind.Comma ∷ []) ds)
 
--- how tightly an operator binds; `*`, `/`, `%` and `atan2` by 5
+-- how tightly an operator binds; `*`, `/`, `%` and `atan2` by 5 (by lists in KindLists)
 abbrev pub precedence : ℕ → ℕ
 precedence op =
     if op == T_POW then 6

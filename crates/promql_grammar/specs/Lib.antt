@@ -3,6 +3,7 @@ pub mod GrammarParts
 pub mod Parsing
 pub mod Results
 pub mod KindTable
+pub mod KindLists
 pub mod Symbols
 pub mod Misfits
 pub mod SourceTokens

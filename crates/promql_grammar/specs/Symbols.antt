@@ -1,5 +1,5 @@
 -- What a token is to the grammar (docs/reference/grammar.md, "Kinds of tokens").
-use Rattle.std.specs.Prelude.{ℕ, Bool, true, false, ◌==◌, ◌||◌, if◌then◌else◌, List, [], ◌∷◌, map, slice_get}
+use Rattle.std.specs.Prelude.{ℕ, Bool, true, false, ◌==◌, ◌||◌, if◌then◌else◌, List, [], ◌∷◌, slice_get}
 use Rattle.std.specs.List.{list_any}
 use Rattle.std.specs.Option.{unwrap_or, option_map}
 use Rattle.promql_text.specs.Texts.{Text}
@@ -14,10 +14,6 @@ kind_in table id = unwrap_or (option_map (λ row. row.1) (slice_get table id)) k
 
 abbrev pub token_kind : ℕ → TokenKind
 token_kind = kind_in TOKEN_KINDS
-
--- the ids of that table
-abbrev pub ids_of_kinds : List ℕ
-ids_of_kinds = map (λ row. row.0) TOKEN_KINDS
 
 -- the operators that are words, and those that may be unary
 abbrev pub is_word_operator : ℕ → Bool

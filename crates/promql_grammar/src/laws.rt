@@ -1,14 +1,19 @@
 //! Laws of the grammar.
 
-ghost use Rattle.std.specs.Prelude.{◌≡◌, ℕ, ◌≤◌, ◌++◌, [], ◌∷◌, List, Ok, Err, nat_lt, if◌then◌else◌, length, map};
+ghost use Rattle.std.specs.Prelude.{◌≡◌, ◌↔◌, ◌⊎◌, ℕ, ◌+◌, ◌≤◌, ◌==◌, ◌++◌, [], ◌∷◌, List, Ok, Err, true, nat_lt, if◌then◌else◌, length, map, slice_get, Contains};
+ghost use Rattle.std.specs.List.{position_or_len};
+ghost use Rattle.std.specs.Option.{unwrap_or};
 ghost use Rattle.promql_text.specs.Equalities.{IsSameBy};
-ghost use Rattle.promql_grammar.specs.Grammar.{Derivation, IsWellFormed, height, yield};
+ghost use Rattle.promql_grammar.specs.Grammar.{Derivation, FitsRight, FitsUnary, IsBase, IsWellFormed, height, openness, precedence, yield};
+ghost use Rattle.promql_grammar.specs.KindLists.{label_kinds, low_levels, name_words, punctuation};
 ghost use Rattle.promql_grammar.specs.KindTable.{kinds};
 ghost use Rattle.promql_grammar.specs.Misfits.{AreMisfits};
 ghost use Rattle.promql_grammar.specs.Parsing.{misfit, parse_expression, too_high};
-ghost use Rattle.promql_grammar.specs.Symbols.{Symbol, ids_of_kinds};
+ghost use Rattle.promql_grammar.specs.Symbols.{Symbol, is_punct, may_be_called, may_be_label, may_be_name, token_kind};
 ghost use Rattle.promql_grammar.specs.declared.token_kinds.TheConstants.{TOKEN_KINDS};
-ghost use Rattle.promql_token.specs.Ids.{count_up};
+ghost use Rattle.promql_grammar.specs.declared.token_kinds.TokenKind.TheVariants as kind;
+ghost use Rattle.promql_token.specs.declared.ids.TheConstants.{T_MUL, T_POW};
+ghost use Rattle.promql_token.specs.Ids.{count_up, is_one_of};
 
 use crate::token_kinds::TokenKind;
 
@@ -17,10 +22,33 @@ pub fn one_tree()
     ensures { (a b : Derivation) → IsWellFormed a → IsWellFormed b → yield a ≡ yield b → a ≡ b }
 {}
 
-/// The table of kinds has a row for each id, in the order of the ids, with the kind of docs/reference/grammar.md.
+/// The table of kinds has a row for each id, in the order of the ids, with the kind of docs/reference/grammar.md; any other
+/// number has no kind of these.
 pub fn kinds_by_id()
-    ensures ids { ids_of_kinds ≡ count_up 0 86 }
+    ensures ids { map (λ row. row.0) TOKEN_KINDS ≡ count_up 0 86 }
     ensures kinds { map (λ row. row.1) TOKEN_KINDS ≡ kinds }
+    ensures kind { (id : ℕ) → token_kind id ≡ unwrap_or (slice_get kinds id) kind.Other }
+{}
+
+/// Exactly the kinds of these lists are punctuation, and may be the name of a metric, a label and the name of a function;
+/// an aggregator may be the first two of these.
+pub fn kinds_by_use()
+    ensures punctuation { (k : TokenKind) → (is_punct k ≡ true) ↔ Contains punctuation k }
+    ensures name { (k : TokenKind) → (may_be_name k ≡ true)
+        ↔ (Contains (kind.Identifier ∷ kind.MetricIdentifier ∷ name_words) k ⊎ ((op : ℕ) × (k ≡ kind.Aggregator op))) }
+    ensures label { (k : TokenKind) → (may_be_label k ≡ true)
+        ↔ (Contains label_kinds k ⊎ ((op : ℕ) × (k ≡ kind.Aggregator op))) }
+    ensures called { (k : TokenKind) → (may_be_called k ≡ true)
+        ↔ Contains (kind.Identifier ∷ kind.Start ∷ kind.End ∷ []) k }
+{}
+
+/// The level of an operator is 6 of `^`, that of the list which has it, and 5 of all others. An operand may be the base of
+/// a postfix exactly if it is of the greatest openness, and that of a sign exactly if it may be the right side of a product.
+pub fn levels()
+    ensures operator { (op : ℕ) → precedence op
+        ≡ (if op == T_POW then 6 else 1 + position_or_len (λ ops. is_one_of ops op) low_levels) }
+    ensures base { (d : Derivation) → IsBase d ↔ (openness d ≡ 7) }
+    ensures signed { (d : Derivation) → FitsUnary d ↔ FitsRight T_MUL d }
 {}
 
 /// Kinds of tokens are equal exactly if they are the same.
