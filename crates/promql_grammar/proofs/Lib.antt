@@ -4,6 +4,7 @@ pub mod KnownKinds
 pub mod Precedences
 pub mod Levels
 pub mod KindUses
+pub mod LabelWords
 pub mod CompleteParts
 pub mod SameTokenKinds
 pub mod SoundParts

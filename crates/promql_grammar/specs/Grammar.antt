@@ -1,13 +1,13 @@
 -- The grammar: derivations, their tokens, their heights, and which of them are well formed (docs/reference/grammar.md,
 -- "Grammar").
-use Rattle.std.specs.Prelude.{◌≡◌, ◌⊎◌, ℕ, ◌+◌, ◌≤◌, ◌<◌, Bool, true, ◌==◌, if◌then◌else◌, min, max, Option, Some, None, IfSome, List, [], ◌∷◌, ◌++◌}
+use Rattle.std.specs.Prelude.{◌≡◌, ◌⊎◌, ℕ, ◌+◌, ◌≤◌, ◌<◌, true, ◌==◌, ◌||◌, if◌then◌else◌, min, max, Option, Some, None, IfSome, List, [], ◌∷◌, ◌++◌}
 use Rattle.std.specs.Option.{option_map_or}
 use Rattle.promql_text.specs.Texts.{Text}
 use Rattle.promql_token.specs.declared.ids.TheConstants.{T_LOR, T_LAND, T_LUNLESS, T_EQLC, T_NEQ, T_LTE, T_LSS, T_GTE, T_GTR, T_ADD, T_SUB, T_POW}
 use Rattle.promql_token.specs.Ids.{is_one_of}
 use Rattle.promql_grammar.specs.declared.token_kinds.TokenKind.{TokenKind}
 use Rattle.promql_grammar.specs.declared.token_kinds.TokenKind.TheVariants as kind
-use Rattle.promql_grammar.specs.Symbols.{Symbol, punct, word, is_plus_or_minus, may_be_name, may_be_called}
+use Rattle.promql_grammar.specs.Symbols.{Symbol, punct, word, may_be_name, may_be_called}
 use Rattle.promql_grammar.specs.GrammarParts.{IsLabels, Braces, yield_braces, Clause, yield_before, yield_after, Modifier, yield_modifier, Matching, IsMatching, Fills, no_fill, Postfix, subquery, yield_postfix}
 
 -- a derivation, with a case for each form of expression; it keeps the tokens of its form
@@ -99,7 +99,7 @@ abbrev mutual
   IsWellFormed (call k text ds) = (may_be_called k ≡ true) × AreWellFormed ds
   IsWellFormed (aggregate op text c ds) = IfSome c (λ (before, (by, text, ls)). IsLabels ls) × AreWellFormed ds
   IsWellFormed (postfixed d p) = IsWellFormed d × IsBase d
-  IsWellFormed (unary op text d) = (is_plus_or_minus op ≡ true) × IsWellFormed d × FitsUnary d
+  IsWellFormed (unary op text d) = ((op == T_ADD || op == T_SUB) ≡ true) × IsWellFormed d × FitsUnary d
   IsWellFormed (binary op text m l r) = IsWellFormed l × IsWellFormed r × IsMatching m.1 × FitsLeft op (openness l) × FitsRight op r × FitsMatching m.1 m.2 (yield r)
   IsWellFormed d = Unit {0}
 

@@ -120,31 +120,23 @@ pub data Item : Type 0 where
   matcher : (quoted : Bool) → Text → MatchOperator → Text → Item
   lone : Text → Item
 
--- an `or`, where it is no comma
-abbrev pub Separator : Type 0
-Separator = Option Text
-
-abbrev pub yield_separator : Separator → Symbol
-yield_separator s = option_map_or (word (kind.Operator T_LOR)) s (punct kind.Comma)
-
+-- items are separated by an `or`, with its text, or by a comma
 pub data Items : Type 0 where
   last_item : Item → (comma : Bool) → Items
-  next_item : Item → Separator → Items → Items
+  next_item : Item → (joint : Option Text) → Items → Items
 
 abbrev pub Braces : Type 0
 Braces = Option Items
 
 -- a matcher's name is an identifier or a string
-abbrev pub name_kind : Bool → TokenKind
-name_kind quoted = if quoted then kind.String else kind.Identifier
-
 abbrev pub yield_item : Item → List Symbol
-yield_item (matcher quoted text s value) = word (name_kind quoted) text ∷ yield_match_operator s ∷ word kind.String value ∷ []
+yield_item (matcher quoted text s value) =
+    word (if quoted then kind.String else kind.Identifier) text ∷ yield_match_operator s ∷ word kind.String value ∷ []
 yield_item (lone text) = word kind.String text ∷ []
 
 abbrev pub yield_items : Items → List Symbol
 yield_items (last_item i comma) = yield_item i ++ (if comma then punct kind.Comma ∷ punct kind.RightBrace ∷ [] else punct kind.RightBrace ∷ [])
-yield_items (next_item i s is) = yield_item i ++ yield_separator s ∷ yield_items is
+yield_items (next_item i joint is) = yield_item i ++ option_map_or (word (kind.Operator T_LOR)) joint (punct kind.Comma) ∷ yield_items is
 
 abbrev pub yield_braces : Braces → List Symbol
 yield_braces b = punct kind.LeftBrace ∷ option_map_or yield_items b (punct kind.RightBrace ∷ [])
@@ -165,3 +157,13 @@ yield_postfix (at_number s text) = punct kind.At ∷ (yield_signed s ++ word kin
 yield_postfix (at_bound start text) = punct kind.At ∷ word (if start then kind.Start else kind.End) text ∷ punct kind.LeftParen ∷ punct kind.RightParen ∷ []
 yield_postfix (offset text s t) = word kind.Offset text ∷ (yield_signed s ++ yield_time t)
 yield_postfix (mode smoothed text) = word (if smoothed then kind.Smoothed else kind.Anchored) text ∷ []
+
+-- Words for parts of these, which proofs and private definitions have: nothing rests on believing them.
+abbrev pub Separator : Type 0
+Separator = Option Text
+
+abbrev pub yield_separator : Separator → Symbol
+yield_separator s = option_map_or (word (kind.Operator T_LOR)) s (punct kind.Comma)
+
+abbrev pub name_kind : Bool → TokenKind
+name_kind quoted = if quoted then kind.String else kind.Identifier

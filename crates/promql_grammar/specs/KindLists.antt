@@ -3,7 +3,7 @@
 use Rattle.std.specs.Prelude.{ℕ, List, [], ◌∷◌, ◌++◌, map}
 use Rattle.promql_token.specs.declared.ids.TheConstants.{T_LOR, T_LAND, T_LUNLESS, T_EQLC, T_NEQ, T_LTE, T_LSS, T_GTE, T_GTR, T_ADD, T_SUB, T_ATAN2}
 use Rattle.promql_grammar.specs.declared.token_kinds.TokenKind.{TokenKind}
-use Rattle.promql_grammar.specs.declared.token_kinds.TokenKind.TheVariants.{Anchored, At, Bool, By, Colon, Comma, End, Equal, EqualRegex, GroupLeft, GroupRight, Identifier, Ignoring, LeftBrace, LeftBracket, LeftParen, MetricIdentifier, NotEqualRegex, Offset, On, Operator, RightBrace, RightBracket, RightParen, Smoothed, Start, String, Without}
+use Rattle.promql_grammar.specs.declared.token_kinds.TokenKind.TheVariants.{Anchored, At, Bool, By, Colon, Comma, End, Equal, EqualRegex, GroupLeft, GroupRight, Identifier, Ignoring, LeftBrace, LeftBracket, LeftParen, NotEqualRegex, Offset, On, Operator, RightBrace, RightBracket, RightParen, Smoothed, Start, String, Without}
 
 abbrev pub punctuation : List TokenKind
 punctuation =

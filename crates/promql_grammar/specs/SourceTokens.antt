@@ -14,6 +14,6 @@ Token = ℕ × Text
 abbrev pub tokens : Text → Result (List Token) LexFault
 tokens text = on_result (filter is_before_end) (lexing.tokens text)
 
--- whether there is a token
+-- whether there is a token; for proofs
 abbrev pub has_any : Result (List Token) LexFault → Result Bool LexFault
 has_any tokens = on_result (λ ts. not (length ts == 0)) tokens

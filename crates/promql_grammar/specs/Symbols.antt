@@ -15,7 +15,7 @@ kind_in table id = unwrap_or (option_map (λ row. row.1) (slice_get table id)) k
 abbrev pub token_kind : ℕ → TokenKind
 token_kind = kind_in TOKEN_KINDS
 
--- the operators that are words, and those that may be unary
+-- the operators that are words, and those that may be unary; for the code and for proofs
 abbrev pub is_word_operator : ℕ → Bool
 is_word_operator op = list_any (λ k. op == k) (T_LAND ∷ T_LOR ∷ T_LUNLESS ∷ T_ATAN2 ∷ [])
 
@@ -86,12 +86,13 @@ pub data Symbol : Type 0 where
   punct : TokenKind → Symbol
   word : TokenKind → Text → Symbol
 
-abbrev pub symbol : TokenKind → Text → Symbol
-symbol k text = if is_punct k then punct k else word k text
-
 -- a token is its id and its text
 abbrev pub symbol_of : ℕ × Text → Symbol
-symbol_of t = symbol (token_kind t.0) t.1
+symbol_of t = if is_punct (token_kind t.0) then punct (token_kind t.0) else word (token_kind t.0) t.1
+
+-- the same of a kind and a text; for proofs
+abbrev pub symbol : TokenKind → Text → Symbol
+symbol k text = if is_punct k then punct k else word k text
 
 -- whether an expression may begin with the first token
 abbrev pub begins : List Symbol → Bool

@@ -1,15 +1,17 @@
 //! Laws of the grammar.
 
-ghost use Rattle.std.specs.Prelude.{◌≡◌, ◌↔◌, ◌⊎◌, ℕ, ◌+◌, ◌≤◌, ◌==◌, ◌++◌, [], ◌∷◌, List, Ok, Err, true, nat_lt, if◌then◌else◌, length, map, slice_get, Contains};
+ghost use Rattle.std.specs.Prelude.{◌≡◌, ◌≢◌, ◌↔◌, ◌⊎◌, Bool, Some, None, ℕ, ◌+◌, ◌≤◌, ◌==◌, ◌++◌, [], ◌∷◌, List, Ok, Err, true, nat_lt, if◌then◌else◌, length, map, slice_get, Contains};
 ghost use Rattle.std.specs.List.{position_or_len};
 ghost use Rattle.std.specs.Option.{unwrap_or};
 ghost use Rattle.promql_text.specs.Equalities.{IsSameBy};
-ghost use Rattle.promql_grammar.specs.Grammar.{Derivation, FitsRight, FitsUnary, IsBase, IsWellFormed, height, openness, precedence, yield};
+ghost use Rattle.promql_text.specs.Texts.{Text};
+ghost use Rattle.promql_grammar.specs.Grammar.{Derivation, FitsMatching, FitsRight, FitsUnary, IsBase, IsWellFormed, height, openness, precedence, yield};
+ghost use Rattle.promql_grammar.specs.GrammarParts.{Fills, IsLabels, Labels, Matching, no_fill, yield_names};
 ghost use Rattle.promql_grammar.specs.KindLists.{label_kinds, low_levels, name_words, punctuation};
 ghost use Rattle.promql_grammar.specs.KindTable.{kinds};
 ghost use Rattle.promql_grammar.specs.Misfits.{AreMisfits};
 ghost use Rattle.promql_grammar.specs.Parsing.{misfit, parse_expression, too_high};
-ghost use Rattle.promql_grammar.specs.Symbols.{Symbol, is_punct, may_be_called, may_be_label, may_be_name, token_kind};
+ghost use Rattle.promql_grammar.specs.Symbols.{Symbol, punct, word, is_punct, may_be_called, may_be_label, may_be_name, token_kind};
 ghost use Rattle.promql_grammar.specs.declared.token_kinds.TheConstants.{TOKEN_KINDS};
 ghost use Rattle.promql_grammar.specs.declared.token_kinds.TokenKind.TheVariants as kind;
 ghost use Rattle.promql_token.specs.declared.ids.TheConstants.{T_MUL, T_POW};
@@ -49,6 +51,19 @@ pub fn levels()
         ≡ (if op == T_POW then 6 else 1 + position_or_len (λ ops. is_one_of ops op) low_levels) }
     ensures base { (d : Derivation) → IsBase d ↔ (openness d ≡ 7) }
     ensures signed { (d : Derivation) → FitsUnary d ↔ FitsRight T_MUL d }
+{}
+
+/// A derivation is well formed only where no parenthesis comes directly after a bare grouping word.
+pub fn grouping_words()
+    ensures { (m : Matching) (f : Fills) (ts : List Symbol) → FitsMatching m f ts
+        ↔ ((on left : Bool) (text word : Text) (ls : Labels) (rest : List Symbol)
+        → m ≡ Some (on, text, ls, Some (left, word, None)) → f ≡ no_fill → ts ≢ punct kind.LeftParen ∷ rest) }
+{}
+
+/// Labels are well formed exactly if each word of their tokens may be a label.
+pub fn label_words()
+    ensures { (ls : Labels) → IsLabels ls
+        ↔ ((k : TokenKind) (text : Text) → Contains (yield_names ls) (word k text) → may_be_label k ≡ true) }
 {}
 
 /// Kinds of tokens are equal exactly if they are the same.

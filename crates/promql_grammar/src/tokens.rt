@@ -1,10 +1,11 @@
 //! The tokens of a text before its end, or its lexical fault.
 
-ghost use Rattle.std.specs.Prelude.{◌≡◌, ◌==◌, ◌<◌, ◌^◌, List, [], ◌∷◌, ◌++◌, false, length, drop, None, Ok, Err, map, IfErr, IfOk, MatchBool, MatchOption, OnErr};
+ghost use Rattle.std.specs.Prelude.{◌≡◌, ◌==◌, ◌<◌, ◌^◌, List, [], ◌∷◌, ◌++◌, false, not, length, drop, None, Ok, Err, map, IfErr, IfOk, MatchBool, MatchOption, OnErr};
 ghost use Rattle.promql_token.specs.Cursor.{ends_in_fault, tokens_left, tokens_up_to_fault};
 ghost use Rattle.promql_grammar.specs.Symbols.{symbol, symbol_of};
 ghost use Rattle.promql_grammar.specs.declared.read_error.ReadError.TheVariants.{Syntax};
-ghost use Rattle.promql_grammar.specs.SourceTokens.{Token, tokens, has_any};
+ghost use Rattle.promql_grammar.specs.Results.{on_result};
+ghost use Rattle.promql_grammar.specs.SourceTokens.{Token, tokens};
 ghost use Rattle.promql_grammar.specs.Eating.{Eats, HasNo};
 ghost use Rattle.promql_grammar.specs.SymbolsLeft.{CountsTaken, symbols_left, cursor_symbols, symbols_from, fault_symbol, tokens_taken};
 
@@ -17,7 +18,7 @@ use promql_token::scan::Lexer;
 
 /// Whether the text has a token before its end, or its lexical fault. It allocates nothing.
 pub fn has_tokens(text: &str) -> Result<bool, LexFault>
-    ensures { has_any (tokens text.now) ≡ result }
+    ensures { on_result (λ ts. not (length ts == 0)) (tokens text.now) ≡ result }
 {
     let mut some = false;
     for found in Lexer::new(text) {
