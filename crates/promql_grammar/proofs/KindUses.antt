@@ -4,13 +4,13 @@ use Rattle.std.specs.Prelude.{◌↔◌, ◌==◌, ◌||◌, slice_get, Contains
 use Rattle.std.specs.List.{list_any, AllByRecursion}
 use Rattle.std.specs.Option.{unwrap_or}
 use Rattle.std.proofs.lemmas.List.Elements.{Contains-append_right}
-use Rattle.promql_token.specs.declared.ids.TheConstants.{T_LAND, T_LOR, T_LUNLESS, T_ATAN2}
+use Rattle.promql_token.specs.declared.ids.TheConstants.{T_ADD, T_SUB, T_LAND, T_LOR, T_LUNLESS, T_ATAN2}
 use Rattle.promql_grammar.specs.declared.token_kinds.TokenKind.{TokenKind}
 use Rattle.promql_grammar.specs.declared.token_kinds.TokenKind.TheVariants as kind
 use Rattle.promql_grammar.specs.declared.token_kinds.TheConstants.{TOKEN_KINDS}
 use Rattle.promql_grammar.specs.KindLists.{label_kinds, name_words, punctuation}
 use Rattle.promql_grammar.specs.KindTable.{kinds}
-use Rattle.promql_grammar.specs.Symbols.{is_punct, is_word_operator, kind_in, may_be_called, may_be_label, may_be_name, token_kind}
+use Rattle.promql_grammar.specs.Symbols.{is_plus_or_minus, is_punct, is_word_operator, kind_in, may_be_called, may_be_label, may_be_name, may_begin, token_kind}
 
 -- what holds of each of a list, holds of what the list contains
 passes : (test : TokenKind → Bool) (ks : List TokenKind) (k : TokenKind) → AllByRecursion (λ j. test j ≡ true) ks → Contains ks k → test k ≡ true
@@ -94,6 +94,39 @@ called_listed kind.Identifier h = (0, omega arith, refl)
 called_listed kind.Start h = (1, omega arith, refl)
 called_listed kind.End h = (2, omega arith, refl)
 called_listed _ h = cc
+
+-- what an expression may begin with that is no name
+abbrev starts : List TokenKind
+starts = kind.Number ∷ kind.Duration ∷ kind.String ∷ kind.LeftParen ∷ kind.LeftBrace ∷ kind.Operator T_ADD ∷ kind.Operator T_SUB ∷ []
+
+operator_begins : (op : ℕ) (plus minus : Bool) → (op == T_ADD) ≡ plus → (op == T_SUB) ≡ minus → ((plus || minus) || is_word_operator op) ≡ true → Contains starts (kind.Operator op) ⊎ (is_word_operator op ≡ true)
+operator_begins op true minus same other h = inl (5, omega arith, ap kind.Operator (sym (eqb-true op T_ADD same)))
+operator_begins op false true other same h = inl (6, omega arith, ap kind.Operator (sym (eqb-true op T_SUB same)))
+operator_begins op false false other another h = inr h
+
+begins_listed : (k : TokenKind) → may_begin k ≡ true → Contains starts k ⊎ (may_be_name k ≡ true)
+begins_listed kind.Number h = inl (0, omega arith, refl)
+begins_listed kind.Duration h = inl (1, omega arith, refl)
+begins_listed kind.String h = inl (2, omega arith, refl)
+begins_listed kind.LeftParen h = inl (3, omega arith, refl)
+begins_listed kind.LeftBrace h = inl (4, omega arith, refl)
+begins_listed (kind.Operator op) h = operator_begins op (op == T_ADD) (op == T_SUB) refl refl h
+begins_listed _ h = inr h
+
+or_true : (a b : Bool) → b ≡ true → (a || b) ≡ true
+or_true true b h = refl
+or_true false b h = h
+
+names_begin : (k : TokenKind) → may_be_name k ≡ true → may_begin k ≡ true
+names_begin (kind.Operator op) h = or_true (is_plus_or_minus op) (is_word_operator op) h
+names_begin _ h = cc
+
+listed_begin : (k : TokenKind) → Contains starts k ⊎ (may_be_name k ≡ true) → may_begin k ≡ true
+listed_begin k (inl h) = passes may_begin starts k (search rules) h
+listed_begin k (inr h) = names_begin k h
+
+pub beginnings_are_listed : (k : TokenKind) → (may_begin k ≡ true) ↔ (Contains starts k ⊎ (may_be_name k ≡ true))
+beginnings_are_listed k = (begins_listed k, listed_begin k)
 
 -- a test that holds of each of a list, and of aggregators
 listed_passes : (test : TokenKind → Bool) (ks : List TokenKind) (k : TokenKind) → AllByRecursion (λ j. test j ≡ true) ks → ((op : ℕ) → test (kind.Aggregator op) ≡ true) → IsListed ks k → test k ≡ true

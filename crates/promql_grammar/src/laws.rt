@@ -11,10 +11,10 @@ ghost use Rattle.promql_grammar.specs.KindLists.{label_kinds, low_levels, name_w
 ghost use Rattle.promql_grammar.specs.KindTable.{kinds};
 ghost use Rattle.promql_grammar.specs.Misfits.{AreMisfits};
 ghost use Rattle.promql_grammar.specs.Parsing.{misfit, parse_expression, too_high};
-ghost use Rattle.promql_grammar.specs.Symbols.{Symbol, punct, word, is_punct, may_be_called, may_be_label, may_be_name, token_kind};
+ghost use Rattle.promql_grammar.specs.Symbols.{Symbol, punct, word, is_punct, may_be_called, may_be_label, may_be_name, may_begin, token_kind};
 ghost use Rattle.promql_grammar.specs.declared.token_kinds.TheConstants.{TOKEN_KINDS};
 ghost use Rattle.promql_grammar.specs.declared.token_kinds.TokenKind.TheVariants as kind;
-ghost use Rattle.promql_token.specs.declared.ids.TheConstants.{T_MUL, T_POW};
+ghost use Rattle.promql_token.specs.declared.ids.TheConstants.{T_ADD, T_MUL, T_POW, T_SUB};
 ghost use Rattle.promql_token.specs.Ids.{count_up, is_one_of};
 
 use crate::token_kinds::TokenKind;
@@ -33,7 +33,7 @@ pub fn kinds_by_id()
 {}
 
 /// Exactly the kinds of these lists are punctuation, and may be the name of a metric, a label and the name of a function;
-/// an aggregator may be the first two of these.
+/// an aggregator may be the first two of these. An expression may begin with a name, and with what else its list has.
 pub fn kinds_by_use()
     ensures punctuation { (k : TokenKind) → (is_punct k ≡ true) ↔ Contains punctuation k }
     ensures name { (k : TokenKind) → (may_be_name k ≡ true)
@@ -42,6 +42,9 @@ pub fn kinds_by_use()
         ↔ (Contains label_kinds k ⊎ ((op : ℕ) × (k ≡ kind.Aggregator op))) }
     ensures called { (k : TokenKind) → (may_be_called k ≡ true)
         ↔ Contains (kind.Identifier ∷ kind.Start ∷ kind.End ∷ []) k }
+    ensures begin { (k : TokenKind) → (may_begin k ≡ true)
+        ↔ (Contains (kind.Number ∷ kind.Duration ∷ kind.String ∷ kind.LeftParen ∷ kind.LeftBrace
+        ∷ kind.Operator T_ADD ∷ kind.Operator T_SUB ∷ []) k ⊎ (may_be_name k ≡ true)) }
 {}
 
 /// The level of an operator is 6 of `^`, that of the list which has it, and 5 of all others. An operand may be the base of
