@@ -8,6 +8,7 @@ pub mod MatcherBytes
 pub mod MatcherErrors
 pub mod MatcherFeeds
 pub mod MatcherRows
+pub mod MeasureParts
 pub mod NextText
 pub mod Operators
 pub mod PlainMatchers

@@ -28,20 +28,12 @@ abbrev pub group_repeats : ℕ → Text → ℕ
 group_repeats before [] = 1
 group_repeats before (b ∷ z) = (if b == code "{" && not (ends_item before) then 1 + greatest 0 z else 1) * group_repeats b z
 
--- how many bytes come before the first `{`
-abbrev pub brace_place : Text → ℕ
-brace_place v = length (take_while (λ b. not (b == code "{")) v)
-
 -- a comment, which begins with `#`, may hide braces and commas: then it is ten for each digit after the first `{`
 abbrev pub repeats : Text → ℕ
 repeats v =
-    if list_any (λ b. b == code "#") v then 10 ^ count_by is_ascii_digit (drop (brace_place v) v)
+    if list_any (λ b. b == code "#") v then 10 ^ count_by is_ascii_digit (drop (length (take_while (λ b. not (b == code "{")) v)) v)
     else item_repeats 0 v * group_repeats 0 v
 
--- the bytes of the anchored text, and ten more for each backslash, since `\w` is a class of many ranges
-abbrev pub weight : Text → ℕ
-weight v = length v + 6 + 10 * count_by (λ b. b == code "\\") v
-
--- that, so often
+-- the bytes of the anchored text, and ten more for each backslash, since `\w` is a class of many ranges, so often
 abbrev pub measure : Text → ℕ
-measure v = weight v * repeats v
+measure v = (length v + 6 + 10 * count_by (λ b. b == code "\\") v) * repeats v

@@ -27,18 +27,14 @@ name_of (plain_matcher op name value) = name
 abbrev pub value_of : PlainMatcher → Text
 value_of (plain_matcher op name value) = value
 
--- "Matching": whether the operator with this value accepts a text
-abbrev pub accepts : Operator → Text → Text → Bool
-accepts equal value z = bytes_eq value z
-accepts not_equal value z = not (bytes_eq value z)
-accepts (matches w) value z = finds w z
-accepts (matches_not w) value z = not (finds w z)
-
 -- "Matching": whether the matcher matches a text
 abbrev pub holds : PlainMatcher → Text → Bool
-holds (plain_matcher op name value) z = accepts op value z
+holds (plain_matcher equal name value) z = bytes_eq value z
+holds (plain_matcher not_equal name value) z = not (bytes_eq value z)
+holds (plain_matcher (matches w) name value) z = finds w z
+holds (plain_matcher (matches_not w) name value) z = not (finds w z)
 
--- "Printed matchers"
+-- "Printed matchers": the law `operators_print_as_their_tokens`
 abbrev pub operator_text : Operator → Text
 operator_text equal = codes "="
 operator_text not_equal = codes "!="

@@ -14,11 +14,12 @@ ghost use Rattle.promql_label.specs.MatcherRows.{WorkedLists};
 ghost use Rattle.promql_label.specs.Operators.{IsMatcherOf};
 ghost use Rattle.promql_label.specs.PatternSize.{is_small, size, weight};
 ghost use Rattle.promql_label.specs.PlainPatterns.{is_plain};
-ghost use Rattle.promql_label.specs.PlainMatchers.{PlainMatcher, PlainMatchers, append_plain, matcher_text, matchers_text, name_text, plain_matchers};
-ghost use Rattle.promql_label.specs.ReadMatchers.{MeanGroups, parts_of, printed_groups, sorted_matchers};
+ghost use Rattle.promql_label.specs.PlainMatchers.{Operator, PlainMatcher, PlainMatchers, append_plain, matcher_text, matchers_text, name_text, operator_text, plain_matchers};
+ghost use Rattle.promql_label.specs.ReadMatchers.{MeanGroups, operator_id, parts_of, printed_groups, sorted_matchers};
 ghost use Rattle.promql_label.specs.Repeats.{backslashed, escaped_repeats, opens_count, OpensCount};
 ghost use Rattle.promql_label.specs.RepeatPlaces.{bytes_from};
 ghost use Rattle.promql_label.specs.SortedTexts.{sorted_texts, text_order};
+ghost use Rattle.promql_token.specs.Ids.{text_of};
 ghost use Rattle.promql_token.specs.Lexing.{pieces};
 ghost use Rattle.promql_token.specs.declared.state.Mode.TheVariants.{Braces};
 ghost use Rattle.promql_text.specs.Equalities.{HashesAlike, IsSameBy};
@@ -81,6 +82,11 @@ pub fn sorted_matchers_are_one_list()
         ↔ (IsSortedByKey matcher_text text_order ds × IsStableByKey matcher_text text_order cs ds) }
     ensures texts { (cs : List PlainMatcher)
         → sorted_texts (map matcher_text cs) ≡ map matcher_text (sorted_matchers cs) }
+{}
+
+/// An operator prints as the token of its id does.
+pub fn operators_print_as_their_tokens()
+    ensures { (op : Operator) → operator_text op ≡ text_of (operator_id op) }
 {}
 
 /// A printed list of matchers is read in braces, at any depth and before any text, as tokens that mean its matchers, group by group,

@@ -2,6 +2,7 @@
 
 ghost use Rattle.std.specs.Prelude.{◌≡◌, ◌≤◌, ◌*◌, ◌^◌, count_by, drop, length, min};
 ghost use Rattle.std.specs.Char.{is_ascii_digit};
+ghost use Rattle.promql_label.specs.MeasureParts as parts;
 ghost use Rattle.promql_label.specs.PatternMeasure as spec;
 
 /// How large the pattern of a value can get where it is compiled, by its text alone: the bytes of the anchored text, and ten more for
@@ -29,7 +30,7 @@ fn repeats(value: &[u8]) -> usize
 
 /// What a value weighs where nothing repeats it.
 fn weight(value: &[u8]) -> usize
-    ensures { result ≡ min (spec.weight value.now) usize.MAX }
+    ensures { result ≡ min (parts.weight value.now) usize.MAX }
 {
     let escapes = value.iter().filter(|b| **b == b'\\').count();
     escapes
@@ -41,14 +42,14 @@ fn weight(value: &[u8]) -> usize
 /// Ten for each digit after the first `{`.
 fn commented(value: &[u8]) -> usize
     ensures { result ≡ min (10 ^ count_by is_ascii_digit
-        (drop (spec.brace_place value.now) value.now)) usize.MAX }
+        (drop (parts.brace_place value.now) value.now)) usize.MAX }
 {
     ten_for_digits(&value[brace_place(value)..])
 }
 
 /// How many bytes come before the first `{`.
 fn brace_place(value: &[u8]) -> usize
-    ensures place { result ≡ spec.brace_place value.now }
+    ensures place { result ≡ parts.brace_place value.now }
     ensures within { result ≤ length value.now }
 {
     value.iter().take_while(|b| **b != b'{').count()
