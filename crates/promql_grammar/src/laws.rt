@@ -1,6 +1,6 @@
 //! Laws of the grammar.
 
-ghost use Rattle.std.specs.Prelude.{◌≡◌, ◌≢◌, ◌↔◌, ◌⊎◌, Bool, Some, None, ℕ, ◌+◌, ◌≤◌, ◌==◌, ◌++◌, [], ◌∷◌, List, Ok, Err, true, nat_lt, if◌then◌else◌, length, map, slice_get, Contains};
+ghost use Rattle.std.specs.Prelude.{◌≡◌, ◌≢◌, ◌↔◌, ◌⊎◌, Bool, Some, None, ℕ, ◌+◌, ◌≤◌, ◌==◌, ◌++◌, [], ◌∷◌, List, Ok, Err, true, nat_lt, if◌then◌else◌, length, map, slice_get, slice_index, Contains, EachIndex};
 ghost use Rattle.std.specs.List.{position_or_len};
 ghost use Rattle.std.specs.Option.{unwrap_or};
 ghost use Rattle.promql_text.specs.Equalities.{IsSameBy};
@@ -15,7 +15,7 @@ ghost use Rattle.promql_grammar.specs.Symbols.{Symbol, punct, word, is_punct, ma
 ghost use Rattle.promql_grammar.specs.declared.token_kinds.TheConstants.{TOKEN_KINDS};
 ghost use Rattle.promql_grammar.specs.declared.token_kinds.TokenKind.TheVariants as kind;
 ghost use Rattle.promql_token.specs.declared.ids.TheConstants.{T_ADD, T_MUL, T_POW, T_SUB};
-ghost use Rattle.promql_token.specs.Ids.{count_up, is_one_of};
+ghost use Rattle.promql_token.specs.Ids.{is_one_of};
 
 use crate::token_kinds::TokenKind;
 
@@ -27,7 +27,8 @@ pub fn one_tree()
 /// The table of kinds has a row for each id, in the order of the ids, with the kind of docs/reference/grammar.md; any other
 /// number has no kind of these.
 pub fn kinds_by_id()
-    ensures ids { map (λ row. row.0) TOKEN_KINDS ≡ count_up 0 86 }
+    ensures ids { EachIndex TOKEN_KINDS
+        (λ k. slice_index (map (λ row. row.0) TOKEN_KINDS) k ≡ k) }
     ensures kinds { map (λ row. row.1) TOKEN_KINDS ≡ kinds }
     ensures kind { (id : ℕ) → token_kind id ≡ unwrap_or (slice_get kinds id) kind.Other }
 {}

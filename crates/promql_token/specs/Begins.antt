@@ -11,23 +11,20 @@ use Rattle.promql_token.specs.declared.state.Mode.{Mode}
 use Rattle.promql_token.specs.declared.state.Mode.TheVariants as mode
 use Rattle.promql_text.specs.Texts.{Text, code}
 use Rattle.promql_token.specs.Classes.{is_in, is_label}
-use Rattle.promql_token.specs.Vocabulary.{are_digits, braces_id, is_exponent, is_part, is_sign, is_spelling, is_unit, is_word, next, parts_text, word_id}
+use Rattle.promql_token.specs.Vocabulary.{braces_id, is_exponent, is_part, is_sign, is_spelling, is_unit, is_word, next, parts_text, word_id}
 use Rattle.std.specs.List.{concat}
 
 -- ---- punctuators
 
--- a punctuator's text and id, and the bytes that may not follow it
-abbrev pub Punctuator : Type 0
-Punctuator = Text × ℕ × Text
-
-abbrev pub punctuators_outside : List Punctuator
+-- each punctuator's text and id, and the bytes that may not follow it
+abbrev pub punctuators_outside : List (Text × ℕ × Text)
 punctuators_outside =
     (codes "@", T_AT, []) ∷ (codes ",", T_COMMA, []) ∷ (codes "*", T_MUL, []) ∷ (codes "/", T_DIV, []) ∷ (codes "%", T_MOD, []) ∷ (codes "+", T_ADD, []) ∷ (codes "-", T_SUB, [])
     ∷ (codes "^", T_POW, []) ∷ (codes "{", T_LEFT_BRACE, []) ∷ (codes "[", T_LEFT_BRACKET, []) ∷ (codes "(", T_LEFT_PAREN, []) ∷ (codes "=", T_EQL, codes "=~") ∷ (codes "==", T_EQLC, [])
     ∷ (codes "!=", T_NEQ, []) ∷ (codes "<", T_LSS, codes "=") ∷ (codes "<=", T_LTE, []) ∷ (codes ">", T_GTR, codes "=") ∷ (codes ">=", T_GTE, []) ∷ []
 
 -- the punctuators of a mode, with this many parentheses open
-abbrev pub punctuators : Mode → ℕ → List Punctuator
+abbrev pub punctuators : Mode → ℕ → List (Text × ℕ × Text)
 punctuators mode.Outside zero = punctuators_outside
 punctuators mode.Outside (suc depth) = (codes ")", T_RIGHT_PAREN, []) ∷ punctuators_outside
 punctuators mode.Braces depth =
@@ -35,7 +32,7 @@ punctuators mode.Braces depth =
 punctuators (mode.Brackets bracket.Something) depth = (codes "]", T_RIGHT_BRACKET, []) ∷ (codes ":", T_COLON, []) ∷ []
 punctuators (mode.Brackets inside) depth = (codes "]", T_RIGHT_BRACKET, []) ∷ []
 
-abbrev pub IsOneOf : List Punctuator → ℕ → Text → Text → Type 0
+abbrev pub IsOneOf : List (Text × ℕ × Text) → ℕ → Text → Text → Type 0
 IsOneOf [] id w r = ⊥
 IsOneOf (s ∷ ss) id w r = ((w ≡ s.0) × (id ≡ s.1) × (list_any (λ b. next r == b) s.2 ≡ false)) ⊎ IsOneOf ss id w r
 
@@ -58,7 +55,7 @@ is_fraction c (b ∷ ds) = b == code "." && list_all (is_in c) ds
 abbrev pub is_power : Text → Bool
 is_power [] = true
 is_power (e ∷ []) = is_exponent e
-is_power (e ∷ b ∷ ds) = is_exponent e && ((is_sign b || is_ascii_digit b) && are_digits ds)
+is_power (e ∷ b ∷ ds) = is_exponent e && ((is_sign b || is_ascii_digit b) && list_all is_ascii_digit ds)
 
 -- `0x` or `0X`, digits, and a fraction
 abbrev pub IsHex : Text → Type 0
@@ -67,8 +64,8 @@ IsHex w = (x : ℕ) × (whole : Text) × (fraction : Text) × (w ≡ code "0" �
 -- digits, a fraction and an exponent; there is a digit before the point or after it
 abbrev pub IsDecimal : Text → Text → Type 0
 IsDecimal power w =
-    (whole : Text) × (fraction : Text) × (w ≡ whole ++ (fraction ++ power)) × (are_digits whole ≡ true) × (is_fraction class.Digit fraction ≡ true) × (is_power power ≡ true)
-    × ((0 < length whole) ⊎ (1 < length fraction))
+    (whole : Text) × (fraction : Text) × (w ≡ whole ++ (fraction ++ power)) × (list_all is_ascii_digit whole ≡ true)
+    × (is_fraction class.Digit fraction ≡ true) × (is_power power ≡ true) × ((0 < length whole) ⊎ (1 < length fraction))
 
 -- a number that the next byte c does not go on with; c is a unit, or no byte of a name and no point
 abbrev pub IsNumber : Text → ℕ → Type 0

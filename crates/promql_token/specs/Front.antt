@@ -24,6 +24,10 @@ pub record IsFrontWord (state : State) (z : Text) (id len : ℕ) : Type 0 where
   pub front : IsFront state z id len
   pub stays : after state id ≡ state
 
+-- a punctuator's text and id, and the bytes that may not follow it
+abbrev pub Punctuator : Type 0
+Punctuator = Text × ℕ × Text
+
 -- the tokens up to a fault
 abbrev pub up_to_fault : List ScannedText → List (ℕ × Text)
 up_to_fault = ok_prefix

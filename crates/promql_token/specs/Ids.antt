@@ -1,5 +1,5 @@
 -- Ids of tokens: their texts, the keywords and the classes (docs/reference/tokens.md, "Ids").
-use Rattle.std.specs.Prelude.{ℕ, zero, suc, ◌+◌, Bool, ◌&&◌, ◌==◌, nat_lt, List, [], ◌∷◌, codes, map, slice_get, Option}
+use Rattle.std.specs.Prelude.{ℕ, Bool, ◌&&◌, ◌==◌, nat_lt, List, [], ◌∷◌, codes, map, slice_get, Option}
 use Rattle.std.specs.List.{list_any}
 use Rattle.std.specs.Option.{unwrap_or}
 use Rattle.std.specs.Str.{bytes_eq, str_eq_ignore_ascii_case}
@@ -43,10 +43,3 @@ is_comparison_operator = is_one_of (T_EQLC ∷ T_NEQ ∷ T_LTE ∷ T_LSS ∷ T_G
 
 abbrev pub is_set_operator : ℕ → Bool
 is_set_operator = is_one_of (T_LAND ∷ T_LOR ∷ T_LUNLESS ∷ [])
-
--- ---- numbers
-
--- the numbers from n on
-abbrev pub count_up : ℕ → ℕ → List ℕ
-count_up n zero = []
-count_up n (suc more) = n ∷ count_up (n + 1) more

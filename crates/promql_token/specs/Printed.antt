@@ -1,6 +1,7 @@
 -- Tokens that a printer writes, before what follows them: the statements of lemmas. Private: nothing rests on believing it.
 use Rattle.std.specs.Prelude.{◌≡◌, ℕ, ◌<◌, Bool, true, false, ◌==◌, List, [], ◌∷◌, ◌++◌, length, Ok}
-use Rattle.std.specs.List.{list_all}
+use Rattle.std.specs.Char.{is_ascii_digit}
+use Rattle.std.specs.List.{concat, list_all}
 use Rattle.promql_token.specs.declared.ids.TheConstants.{T_DURATION, T_NUMBER, T_STRING}
 use Rattle.promql_token.specs.declared.state.Mode.{Mode}
 use Rattle.promql_token.specs.declared.state.Mode.TheVariants as mode
@@ -9,8 +10,7 @@ use Rattle.promql_text.specs.Texts.{Text, code}
 use Rattle.promql_token.specs.Laws.{stops_numeral}
 use Rattle.promql_token.specs.Lexing.{pieces}
 use Rattle.promql_token.specs.TokenScanning.{is_quote, after}
-pub use Rattle.promql_token.specs.Vocabulary.{are_digits, holds_strings, is_part, is_spelling, parts_text}
-use Rattle.std.specs.List.{concat}
+pub use Rattle.promql_token.specs.Vocabulary.{holds_strings, is_part, is_spelling, parts_text}
 
 -- ---- strings
 
@@ -29,6 +29,9 @@ abbrev pub holds_numerals : Mode → Bool
 holds_numerals mode.Outside = true
 holds_numerals mode.Braces = false
 holds_numerals (mode.Brackets inside) = true
+
+abbrev pub are_digits : Text → Bool
+are_digits w = list_all is_ascii_digit w
 
 -- digits, and a point with digits where there are some
 abbrev pub decimal : Text → Text → Text

@@ -32,12 +32,3 @@ mode_at before = mode_by (find is_bound before) (take_while (λ id. not (is_boun
 -- as many parentheses are open as there are left ones more than right ones
 abbrev pub state_at : List ℕ → State
 state_at before = record { depth = count_of T_LEFT_PAREN before - count_of T_RIGHT_PAREN before; mode = mode_at before }
-
--- something follows a bracket
-abbrev pub mode_after_something : Mode → Mode
-mode_after_something (mode.Brackets bracket.Nothing) = mode.Brackets bracket.Something
-mode_after_something m = m
-
--- after a trivia of this length
-unfoldable pub after_trivia : ℕ → State → State
-after_trivia trivia state = if trivia == 0 then state else record state { mode = mode_after_something state.mode }

@@ -1,8 +1,8 @@
 -- The one way in which a text is trivia and tokens, to its end or to a fault (docs/reference/tokens.md,
 -- "The token list of a text").
-use Rattle.std.specs.Prelude.{◌≡◌, ℕ, ◌+◌, List, [], ◌∷◌, ◌++◌, length, Result, Ok, Err}
+use Rattle.std.specs.Prelude.{◌≡◌, ℕ, ◌+◌, ◌==◌, if◌then◌else◌, List, [], ◌∷◌, ◌++◌, length, Result, Ok, Err}
 use Rattle.promql_token.specs.declared.fault.LexFault.{LexFault}
-use Rattle.promql_token.specs.declared.ids.TheConstants.{T_EOF}
+use Rattle.promql_token.specs.declared.ids.TheConstants.{T_EOF, T_SPACE}
 use Rattle.promql_token.specs.declared.lexeme.Lexeme.{Lexeme}
 use Rattle.promql_token.specs.declared.state.Mode.TheVariants as mode
 use Rattle.promql_token.specs.declared.state.State.{State}
@@ -11,15 +11,15 @@ use Rattle.promql_token.specs.Begins.{MayBegin}
 use Rattle.promql_token.specs.FaultPlaces.{IsFault}
 use Rattle.promql_token.specs.Trivia.{IsTriviaIn}
 use Rattle.promql_token.specs.Lexing.{fault_char}
-use Rattle.promql_token.specs.States.{after_trivia, mode_at, state_at}
+use Rattle.promql_token.specs.States.{mode_at, state_at}
 
 -- a trivia, and the id and the text of the token after it
 abbrev pub Step : Type 0
 Step = Text × ℕ × Text
 
--- the state after tokens with the ids `before` and this trivia
+-- the state after tokens with the ids `before` and this trivia: one that is not empty is something, as a space is
 abbrev pub state_after : List ℕ → Text → State
-state_after before g = after_trivia (length g) (state_at before)
+state_after before g = state_at (if length g == 0 then before else T_SPACE ∷ before)
 
 -- after tokens with the ids `before`, z is these trivia and tokens and then a rest
 abbrev pub IsRead : (List ℕ → Text → Type 0) → List ℕ → Text → List Step → Type 0

@@ -13,7 +13,6 @@ use Rattle.promql_token.specs.declared.state.Mode.TheVariants as mode
 use Rattle.promql_token.specs.declared.state.State.{State}
 use Rattle.promql_text.specs.Texts.{Text, code}
 use Rattle.promql_token.specs.Classes.{is_letter, end_of_run}
-unfoldable pub use Rattle.promql_token.specs.States.{after_trivia, mode_after_something}
 pub use Rattle.promql_token.specs.Vocabulary.{begins_numeral, braces_id, is_escape, is_fill, is_line_end, is_quote, is_unit, name_id, opens, word_id}
 
 -- ---- trivia
@@ -220,6 +219,15 @@ scan_token state [] = end_in state.mode state.depth
 scan_token state (b ∷ z) = scan_in_mode state.mode state.depth (b ∷ z)
 
 -- ---- how a place's state follows from what is before it
+
+-- something follows a bracket
+abbrev pub mode_after_something : Mode → Mode
+mode_after_something (mode.Brackets bracket.Nothing) = mode.Brackets bracket.Something
+mode_after_something m = m
+
+-- after a trivia of this length
+unfoldable pub after_trivia : ℕ → State → State
+after_trivia trivia state = if trivia == 0 then state else record state { mode = mode_after_something state.mode }
 
 -- after a colon
 abbrev pub mode_after_colon : Mode → Mode

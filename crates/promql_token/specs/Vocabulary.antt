@@ -56,9 +56,6 @@ is_sign b = b == code "+" || b == code "-"
 abbrev pub is_exponent : ℕ → Bool
 is_exponent b = b == 101 || b == 69
 
-abbrev pub are_digits : Text → Bool
-are_digits w = list_all is_ascii_digit w
-
 -- a unit; only the first may be `y`
 abbrev pub is_unit : Bool → ℕ → Bool
 is_unit first b = list_any (λ k. b == k) (codes "smhdw") || (first && b == 121)
@@ -66,7 +63,7 @@ is_unit first b = list_any (λ k. b == k) (codes "smhdw") || (first && b == 121)
 -- digits, and a unit with or without `s`
 abbrev pub is_part : Bool → Text × Text → Bool
 is_part first p =
-    not (length p.0 == 0) && are_digits p.0 && is_unit first (slice_index p.1 0) && (length p.1 == 1 || (length p.1 == 2 && slice_index p.1 1 == 115))
+    not (length p.0 == 0) && list_all is_ascii_digit p.0 && is_unit first (slice_index p.1 0) && (length p.1 == 1 || (length p.1 == 2 && slice_index p.1 1 == 115))
 
 abbrev pub parts_text : List (Text × Text) → Text
 parts_text [] = []

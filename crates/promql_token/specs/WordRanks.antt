@@ -1,9 +1,14 @@
 -- How a byte is to names and words. Private: nothing rests on believing it.
-use Rattle.std.specs.Prelude.{ℕ, Bool, if◌then◌else◌, ◌==◌}
+use Rattle.std.specs.Prelude.{ℕ, zero, suc, ◌+◌, Bool, if◌then◌else◌, ◌==◌, List, [], ◌∷◌}
 use Rattle.std.specs.Char.{is_ascii_digit}
 use Rattle.promql_text.specs.Texts.{code}
 use Rattle.promql_token.specs.declared.class.Class.TheVariants as class
 use Rattle.promql_token.specs.Classes.{is_in, is_letter}
+
+-- the numbers from n on
+abbrev pub count_up : ℕ → ℕ → List ℕ
+count_up n zero = []
+count_up n (suc more) = n ∷ count_up (n + 1) more
 
 -- the bytes of names, and those of words
 abbrev pub is_name_byte : ℕ → Bool

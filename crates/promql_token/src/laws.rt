@@ -1,6 +1,6 @@
 //! Laws of the token list: the contracts of functions that do nothing.
 
-ghost use Rattle.std.specs.Prelude.{◌≡◌, ◌↔◌, ◌==◌, ℕ, false, List, [], ◌∷◌, ◌++◌, length, map, Result, Ok, Err, string_bytes};
+ghost use Rattle.std.specs.Prelude.{◌≡◌, ◌↔◌, ◌==◌, ℕ, false, List, [], ◌∷◌, ◌++◌, length, map, Result, Ok, Err, slice_index, string_bytes, EachIndex};
 ghost use Rattle.std.specs.Result.{ok_prefix};
 ghost use Rattle.std.specs.Str.{IsUtf8};
 ghost use Rattle.promql_text.specs.Texts.{Text};
@@ -88,7 +88,7 @@ pub fn equal_faults()
 
 /// The constants, in the order in which docs/reference/tokens.md lists them, are the numbers from 0 on.
 pub fn ids_count_up()
-    ensures { map (λ row. row.0) tables.texts ≡ ids.count_up 0 86 }
+    ensures { EachIndex tables.texts (λ k. slice_index (map (λ row. row.0) tables.texts) k ≡ k) }
 {}
 
 /// The tables of ids with their texts, keywords and messages have the rows of docs/reference/tokens.md, in the same order, and no other.

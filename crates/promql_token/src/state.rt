@@ -53,7 +53,7 @@ fn mode_after_colon(mode: Mode) -> Mode
 }
 
 /// The state after a trivia.
-#[tactic(auto, unfolding(crate::specs::States::after_trivia))]
+#[tactic(auto, unfolding(crate::specs::TokenScanning::after_trivia))]
 pub fn after_trivia(trivia: usize, state: State) -> State
     ensures { result ≡ spec.after_trivia trivia state }
 {

@@ -4,7 +4,7 @@ use Rattle.std.specs.Str.{bytes_eq}
 use Rattle.std.proofs.lemmas.Slice.Eq.{bytes_eq-Decides}
 use Rattle.promql_text.specs.Texts.{Text}
 use Rattle.promql_token.specs.Lexing.{cut, found, lex}
-use Rattle.promql_token.specs.States.{after_trivia}
+use Rattle.promql_token.specs.TokenScanning.{after_trivia}
 use Rattle.promql_token.specs.TokenScanning.{outside, scan_token, trivia_len}
 use Rattle.promql_token.specs.declared.fault.LexFault.{LexFault}
 use Rattle.promql_grammar.specs.Grammar as grammar

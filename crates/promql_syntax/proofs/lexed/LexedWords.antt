@@ -7,7 +7,8 @@ use Rattle.std.proofs.lemmas.Bool.{cond_both}
 use Rattle.std.proofs.lemmas.Bool.Decides.{nat_tests}
 use Rattle.std.specs.Str.{str_eq_ignore_ascii_case}
 use Rattle.promql_text.specs.Texts.{Text}
-use Rattle.promql_token.specs.Ids.{count_up, is_aggregator, keyword_in_any_case, keywords, lookup, text_of}
+use Rattle.promql_token.specs.WordRanks.{count_up}
+use Rattle.promql_token.specs.Ids.{is_aggregator, keyword_in_any_case, keywords, lookup, text_of}
 use Rattle.promql_token.specs.Laws.{is_word, parts}
 use Rattle.promql_token.specs.Lexing.{pieces}
 use Rattle.promql_token.specs.TokenScanning.{Scanned, is_fill, name_id, opens, outside, scan_token, word_id}

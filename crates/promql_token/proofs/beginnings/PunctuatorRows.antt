@@ -12,7 +12,8 @@ use Rattle.promql_token.specs.declared.state.Bracket.TheVariants as bracket
 use Rattle.promql_token.specs.declared.state.Mode.{Mode}
 use Rattle.promql_token.specs.declared.state.Mode.TheVariants as mode
 use Rattle.promql_text.specs.Texts.{Text}
-use Rattle.promql_token.specs.Begins.{Punctuator, punctuators, punctuators_outside, IsOneOf, MayBegin}
+use Rattle.promql_token.specs.Begins.{punctuators, punctuators_outside, IsOneOf, MayBegin}
+use Rattle.promql_token.specs.Front.{Punctuator}
 use Rattle.promql_token.specs.Classes.{is_in}
 use Rattle.promql_token.specs.FaultPlaces.{IsFault}
 use Rattle.promql_token.specs.Vocabulary.{next}

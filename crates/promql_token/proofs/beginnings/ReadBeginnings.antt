@@ -9,7 +9,8 @@ use Rattle.promql_token.specs.declared.state.Bracket.TheVariants as bracket
 use Rattle.promql_token.specs.declared.state.Mode.{Mode}
 use Rattle.promql_token.specs.declared.state.Mode.TheVariants as mode
 use Rattle.promql_text.specs.Texts.{Text}
-use Rattle.promql_token.specs.Begins.{IsName, IsNumeral, IsOneOf, IsString, IsWord, MayBegin, Punctuator, punctuators, punctuators_outside}
+use Rattle.promql_token.specs.Begins.{IsName, IsNumeral, IsOneOf, IsString, IsWord, MayBegin, punctuators, punctuators_outside}
+use Rattle.promql_token.specs.Front.{Punctuator}
 use Rattle.promql_token.specs.Classes.{is_letter, end_of_run}
 use Rattle.promql_token.specs.Vocabulary.{next}
 use Rattle.promql_token.specs.TokenScanning.{Scanned, begins_numeral, scan_in_mode, in_braces, in_brackets, is_quote, numeral, outside, punctuator, string, word}

@@ -26,7 +26,7 @@ use Rattle.promql_token.proofs.beginnings.TriviaLengths.{trivia_passed, is_trivi
 use Rattle.promql_token.proofs.one_reading.Inner.{Inner, begun_inner}
 use Rattle.promql_token.proofs.one_reading.Places.{trivia_len_ends}
 use Rattle.promql_token.proofs.one_reading.Steps.{cut_is, pieces_are}
-use Rattle.promql_token.proofs.one_reading.UniqueTokens.{IsAt, at_start, is_state, next_at}
+use Rattle.promql_token.proofs.one_reading.UniqueTokens.{IsAt, at_start, is_state, next_at, trivia_at}
 use Rattle.promql_token.specs.declared.ids.TheConstants.{T_EOF}
 
 -- ---- what is read
@@ -39,7 +39,7 @@ IsTold before at z rs =
 
 -- the state with a trivia, told by the tokens before it
 trivia_state : (before : List ℕ) (state : State) (g : Text) (n : ℕ) → IsAt before state → n ≡ length g → after_trivia n state ≡ state_after before g
-trivia_state before state g n h len = (λ i. after_trivia (len i) (is_state before state h i))
+trivia_state before state g n h len = (λ i. after_trivia (len i) (is_state before state h i)) ∙ trivia_at before g
 
 -- only outside, with nothing open, there is an end
 end_state : (m : Mode) (depth : ℕ) (t : ℕ × ℕ) → end_in m depth ≡ Ok t → (m ≡ mode.Outside) × (depth ≡ 0)
@@ -293,7 +293,7 @@ append_nil (b ∷ t) = ap (λ t. b ∷ t) (append_nil t)
 
 end_found : (before : List ℕ) (state : State) (z : Text) → IsAt before state → IsEnd before z → found state z ≡ record { trivia = length z; scanned_text = Ok (T_EOF, []) }
 end_found before state z h e =
-    let at_rest : state_after before z ≡ record { depth = 0; mode = mode.Outside } = outside_end (length z) (state_at before) e.1 e.2 in
+    let at_rest : state_after before z ≡ record { depth = 0; mode = mode.Outside } = sym (trivia_at before z) ∙ outside_end (length z) (state_at before) e.1 e.2 in
     let piece_text_is : scanned_text (scan_token (state_after before z) []) [] ≡ Ok (T_EOF, []) = ap (λ s. scanned_text (scan_token s []) []) at_rest ∙ empty in
     ap (found state) (sym (append_nil z)) ∙ found_is before state z [] h e.0 ∙ ap (λ w. record { trivia = length z; scanned_text = w }) piece_text_is
 

@@ -15,7 +15,7 @@ use Rattle.promql_token.specs.Lexing.{ScannedText, found, scanned_text, state_af
 use Rattle.promql_token.specs.TokenScanning.{Scanned, scan_in_mode, end_in, scan_token, after_trivia, after, depth_after, mode_after, mode_after_something, mode_after_colon, trivia_len}
 use Rattle.promql_token.proofs.cursors.TestsAndCounts.{by_bool}
 use Rattle.promql_token.proofs.one_reading.Inner.{Inner, begun_inner}
-use Rattle.promql_token.specs.declared.ids.TheConstants.{T_COLON, T_EOF, T_LEFT_BRACE, T_LEFT_BRACKET, T_LEFT_PAREN, T_RIGHT_BRACE, T_RIGHT_BRACKET, T_RIGHT_PAREN}
+use Rattle.promql_token.specs.declared.ids.TheConstants.{T_COLON, T_EOF, T_LEFT_BRACE, T_LEFT_BRACKET, T_LEFT_PAREN, T_RIGHT_BRACE, T_RIGHT_BRACKET, T_RIGHT_PAREN, T_SPACE}
 
 -- ---- the state of a place, by the tokens before it
 
@@ -47,6 +47,19 @@ moved_by None id since apart = refl
 moved_by (Some k) id since apart =
     moved_tests (k == 9) (k == 10) (list_any (λ k. k == 2) since) (length since == 0) (suc (length since) == 0) (one_more (length since))
     ∙ ap (λ c. cond (k == 9) mode.Braces (cond (k == 10) (mode.Brackets (cond (c || list_any (λ k. k == 2) since) bracket.Colon (cond (suc (length since) == 0) bracket.Nothing bracket.Something))) mode.Outside)) (sym apart)
+
+-- a trivia that is not empty is as a space
+pub trivia_at : (before : List ℕ) (g : Text) → after_trivia (length g) (state_at before) ≡ state_at (cond (length g == 0) before (T_SPACE ∷ before))
+unfolding after_trivia
+trivia_at before g =
+    let n : ℕ = prefix_len (λ id. not (is_bound id)) before in
+    let one : 1 + n ≡ suc n = omega arith in
+    let front : take (1 + n) (T_SPACE ∷ before) ≡ T_SPACE ∷ take n before = ap (λ k. take k (T_SPACE ∷ before)) one in
+    let mode_is : mode_after_something (mode_at before) ≡ mode_at (T_SPACE ∷ before) = moved_by (find is_bound before) T_SPACE (take n before) refl ∙ ap (mode_by (find is_bound before)) (sym front) in
+    cond_both (length g == 0) before (T_SPACE ∷ before) (λ ids. cond (length g == 0) (state_at before) (record (state_at before) { mode = mode_after_something (mode_at before) }) ≡ state_at ids)
+    (λ none. ap (λ b. cond b (state_at before) (record (state_at before) { mode = mode_after_something (mode_at before) })) none)
+    (λ some. ap (λ b. cond b (state_at before) (record (state_at before) { mode = mode_after_something (mode_at before) })) some
+    ∙ (λ i. record (state_at before) { mode = mode_is i }))
 
 -- a colon
 colon_tests : (brace bracket_id any none : Bool) (x : Mode)

@@ -13,7 +13,8 @@ use Rattle.promql_text.specs.Texts.{Text}
 use Rattle.promql_token.specs.Begins.{IsDuration, IsNumber, IsNumeral, is_unit_text}
 use Rattle.promql_token.specs.Classes.{is_in, end_of_run}
 use Rattle.promql_token.specs.FaultPlaces.{NoNumeral}
-use Rattle.promql_token.specs.Vocabulary.{are_digits, is_exponent, next}
+use Rattle.promql_token.specs.Vocabulary.{is_exponent, next}
+use Rattle.promql_token.specs.Printed.{are_digits}
 use Rattle.promql_token.specs.TokenScanning.{Scanned, begins_numeral, is_unit, number_end, numeral, part_len, parts_from, past_whole, unit_len, units}
 use Rattle.promql_token.specs.Printed.{is_part, parts_text}
 use Rattle.promql_token.proofs.cursors.TestsAndCounts.{same_number, by_bool}
