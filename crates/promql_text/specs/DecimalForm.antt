@@ -77,11 +77,11 @@ pub record Signed : Type 0 where
 unfoldable pub decimal_form : Text → Option Signed
 decimal_form s = option_map (λ r. record { is_negative = is_minus s; reading = r }) (reading (without_sign s))
 
--- The meaning of a numeral: the whole number of all its digits, how many of them come after the point,
--- and the size of its exponent. Its value is `digits` times 10 to the exponent, divided by 10 to `places`.
+-- the whole number of all digits of a numeral
 abbrev pub digits_number : Numeral → ℕ
 digits_number n = digits_value 10 (n.whole ++ n.fraction)
 
+-- how many of them come after the point, and the size of the exponent
 abbrev pub places : Numeral → ℕ
 places n = length n.fraction
 

@@ -1,9 +1,10 @@
 -- Which texts are durations, and of how many nanoseconds: a relation (docs/reference/texts.md,
 -- "The duration of a text").
 use Rattle.std.specs.Prelude.{◌≡◌, ◌≢◌, ◌⊎◌, ℕ, ◌+◌, ◌*◌, ◌%◌, ◌^◌, ◌<◌, ◌≤◌, ⊤, true, false, if◌then◌else◌, List, [], ◌∷◌, ◌++◌, length, Result, Ok, Err}
+use Rattle.std.specs.List.{flat_map, sum_by}
 use Rattle.std.specs.Str.Parse.{AllDigits, digits_value}
 use Rattle.promql_text.specs.Texts.{Text}
-use Rattle.promql_text.specs.DecimalForm.{Numeral, Reading, NotANumber, digits_number, places, exponent_size}
+use Rattle.promql_text.specs.DecimalForm.{Numeral, Reading, NotANumber, digits_number}
 use Rattle.promql_text.specs.DecimalForm as form
 use Rattle.promql_text.specs.NumeralSpelling.{IsDecimalForm}
 use Rattle.promql_text.specs.Durations.{nanos_of, word_of, units}
@@ -13,30 +14,17 @@ use Rattle.promql_text.specs.declared.duration.DurationFault.TheVariants as faul
 
 -- ---- parts
 
--- a count, as digits, and its unit
-abbrev pub Part : Type 0
-Part = Text × Unit
-
-abbrev pub IsCount : Text → Type 0
-IsCount ds = (0 < length ds) × AllDigits 10 ds
-
--- each part has digits, and one of these units, in this order and each at most once
-abbrev pub AreParts : List Unit → List Part → Type 0
+-- parts, each a count and its unit: each has digits, and one of these units, in this order and each at most once
+abbrev pub AreParts : List Unit → List (Text × Unit) → Type 0
 AreParts us [] = ⊤
 AreParts [] (p ∷ ps) = ⊥
-AreParts (u ∷ us) (p ∷ ps) = ((p.1 ≡ u) × IsCount p.0 × AreParts us ps) ⊎ AreParts us (p ∷ ps)
-
-abbrev pub parts_text : List Part → Text
-parts_text [] = []
-parts_text (p ∷ ps) = p.0 ++ (word_of p.1 ++ parts_text ps)
-
-abbrev pub parts_sum : List Part → ℕ
-parts_sum [] = 0
-parts_sum (p ∷ ps) = digits_value 10 p.0 * nanos_of p.1 + parts_sum ps
+AreParts (u ∷ us) (p ∷ ps) = ((p.1 ≡ u) × ((0 < length p.0) × AllDigits 10 p.0) × AreParts us ps) ⊎ AreParts us (p ∷ ps)
 
 -- the text is one or more parts, of n nanoseconds together
 abbrev pub IsParts : Text → ℕ → Type 0
-IsParts s n = (parts : List Part) × (0 < length parts) × AreParts units parts × (s ≡ parts_text parts) × (n ≡ parts_sum parts)
+IsParts s n =
+    (parts : List (Text × Unit)) × (0 < length parts) × AreParts units parts × (s ≡ flat_map (λ p. p.0 ++ word_of p.1) parts)
+    × (n ≡ sum_by (λ p. digits_value 10 p.0 * nanos_of p.1) parts)
 
 -- ---- seconds
 
@@ -48,10 +36,10 @@ pub record IsNearest (a b q : ℕ) : Type 0 where
 
 -- a numeral's value is its digits times 10 to `up`, divided by 10 to `down`
 abbrev pub up : Numeral → ℕ
-up n = if n.is_down then 0 else exponent_size n
+up n = if n.is_down then 0 else digits_value 10 n.exponent
 
 abbrev pub down : Numeral → ℕ
-down n = if n.is_down then places n + exponent_size n else places n
+down n = if n.is_down then length n.fraction + digits_value 10 n.exponent else length n.fraction
 
 -- the text is a numeral of seconds, which are n nanoseconds when rounded
 abbrev pub IsSeconds : Text → ℕ → Type 0

@@ -1,14 +1,14 @@
 -- How the code reads the parts of a duration (private: nothing rests on believing it).
-use Rattle.std.specs.Prelude.{◌≡◌, ℕ, ◌+◌, ◌-◌, ◌^◌, ◌<◌, min, true, false, if◌then◌else◌, List, [], ◌∷◌, length, Option, Some, None, option_map, Result}
+use Rattle.std.specs.Prelude.{◌≡◌, ℕ, ◌+◌, ◌-◌, ◌*◌, ◌^◌, ◌<◌, min, true, false, if◌then◌else◌, List, [], ◌∷◌, ◌++◌, length, Option, Some, None, option_map, Result}
 use Rattle.std.specs.Char.{is_ascii_digit}
 use Rattle.std.specs.Duration.{as_nanos}
 use Rattle.std.specs.Result.{result_map_both}
 use Rattle.std.specs.declared.time.Duration.{Duration}
 use Rattle.std.specs.Str.{bytes_eq}
-use Rattle.std.specs.Str.Parse.{digits_value}
+use Rattle.std.specs.Str.Parse.{AllDigits, digits_value}
 use Rattle.std.proofs.Common.{Bor}
 use Rattle.promql_text.specs.DecimalForm.{front, digit_run, past_run}
-use Rattle.promql_text.specs.Durations.{word_of, parts_nanos}
+use Rattle.promql_text.specs.Durations.{nanos_of, word_of, parts_nanos}
 use Rattle.promql_text.specs.Texts.{Text}
 use Rattle.promql_text.specs.declared.duration.DurationFault.{DurationFault}
 use Rattle.promql_text.specs.declared.duration.Unit.{Unit}
@@ -17,6 +17,22 @@ use Rattle.promql_text.specs.declared.duration.Unit.TheVariants.{Day, Hour, Minu
 -- the result is what was said: a duration of that many nanoseconds, or that fault
 abbrev pub GivesDuration : Result Duration DurationFault → Result ℕ DurationFault → Type 0
 GivesDuration r said = said ≡ result_map_both as_nanos (λ f. f) r
+
+-- a count, as digits, and its unit
+abbrev pub Part : Type 0
+Part = Text × Unit
+
+abbrev pub IsCount : Text → Type 0
+IsCount ds = (0 < length ds) × AllDigits 10 ds
+
+-- the text of parts, and their nanoseconds together
+abbrev pub parts_text : List Part → Text
+parts_text [] = []
+parts_text (p ∷ ps) = p.0 ++ (word_of p.1 ++ parts_text ps)
+
+abbrev pub parts_sum : List Part → ℕ
+parts_sum [] = 0
+parts_sum (p ∷ ps) = digits_value 10 p.0 * nanos_of p.1 + parts_sum ps
 
 -- the units of the text of a duration that is no whole number of weeks or years
 abbrev pub short_units : List Unit

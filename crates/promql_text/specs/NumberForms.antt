@@ -1,13 +1,12 @@
 -- Which texts are numbers, and which numbers: a relation (docs/reference/texts.md, "The number of a text").
 -- White space is left out of these texts.
-use Rattle.std.specs.Prelude.{◌≡◌, ◌⊎◌, ℕ, ◌+◌, ◌*◌, ◌^◌, ◌<◌, ◌≤◌, Bool, true, false, if◌then◌else◌, [], ◌∷◌, ◌++◌, length, Result, Ok, Err}
+use Rattle.std.specs.Prelude.{◌≡◌, ◌⊎◌, ℕ, ◌+◌, ◌*◌, ◌^◌, ◌<◌, ◌≤◌, ◌==◌, ◌||◌, Bool, true, false, if◌then◌else◌, [], ◌∷◌, ◌++◌, length, Result, Ok, Err}
 use Rattle.std.specs.List.{list_any}
 use Rattle.std.specs.Str.Parse.{AllDigits, digits_value}
 use Rattle.promql_text.specs.Texts.{Text}
 use Rattle.promql_text.specs.DecimalForm.{Reading, NotANumber, Infinite, Signed, digits_number}
 use Rattle.promql_text.specs.DecimalForm as form
 use Rattle.promql_text.specs.DurationForms.{up, down}
-use Rattle.promql_text.specs.NumberText.{is_x, is_past_octal}
 use Rattle.promql_text.specs.Numbers.{Exact, IsExact}
 use Rattle.promql_text.specs.NumeralSpelling.{IsSign, IsDecimalForm}
 use Rattle.promql_text.specs.declared.number.Number.{Number}
@@ -26,7 +25,8 @@ IsInRadix radix prefix t is_negative n =
 -- a sign or none, `0`, and more, in which there is no point, no `8` and no `9`: no decimal text is so
 abbrev pub BeginsOctal : Text → Type 0
 BeginsOctal t =
-    (b : Bool) × (sign : Text) × (rest : Text) × (t ≡ sign ++ (48 ∷ rest)) × IsSign b sign × (0 < length rest) × (list_any is_past_octal rest ≡ false)
+    (b : Bool) × (sign : Text) × (rest : Text) × (t ≡ sign ++ (48 ∷ rest)) × IsSign b sign × (0 < length rest)
+    × (list_any (λ c. c == 46 || (c == 56 || c == 57)) rest ≡ false)
 
 -- what a text means: a whole number with a sign, or what the decimal form says
 pub data Meaning : Type 0 where
@@ -35,7 +35,7 @@ pub data Meaning : Type 0 where
 
 -- hexadecimal digits come after an `x` in either case
 abbrev pub Means : Text → Meaning → Type 0
-Means t (Whole b n) = ((x : ℕ) × (is_x x ≡ true) × IsInRadix 16 (x ∷ []) t b n) ⊎ IsInRadix 8 [] t b n
+Means t (Whole b n) = ((x : ℕ) × ((x == 120 || x == 88) ≡ true) × IsInRadix 16 (x ∷ []) t b n) ⊎ IsInRadix 8 [] t b n
 Means t (Decimal f) = IsDecimalForm f t × (BeginsOctal t → ⊥)
 
 -- ---- numbers

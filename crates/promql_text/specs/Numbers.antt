@@ -20,8 +20,8 @@ pub record IsExact (d : Exact) : Type 0 where
   pub ends : d.digits % 10 ≡ 0 → d.digits ≡ 0
   pub one_zero : d.digits ≡ 0 → (d.is_negative ≡ false) × (d.zeros ≡ 0) × (d.places ≡ 0)
   pub one_side : 0 < d.places → d.zeros ≡ 0
-  pub below : digit_count d.digits + d.zeros ≤ 309 + d.places
-  pub above : d.places ≤ digit_count d.digits + d.zeros + 323
+  pub below : length (decimal d.digits) + d.zeros ≤ 309 + d.places
+  pub above : d.places ≤ length (decimal d.digits) + d.zeros + 323
 
 abbrev pub exact_zero : Exact
 exact_zero = record { is_negative = false; digits = 0; zeros = 0; places = 0 }

@@ -8,7 +8,7 @@ ghost use Rattle.std.specs.Str.Parse.{digits_value};
 ghost use Rattle.promql_text.specs.DecimalForm.{decimal_form};
 ghost use Rattle.promql_text.specs.DecimalParts.{reading_of};
 ghost use Rattle.promql_text.specs.DurationReaders as readers;
-ghost use Rattle.promql_text.specs.DurationForms.{IsCount};
+ghost use Rattle.promql_text.specs.DurationReaders.{IsCount};
 ghost use Rattle.promql_text.specs.Durations as spec;
 
 use crate::decimal_form::{DecimalForm, Reading, decimal_form, front, past_run};

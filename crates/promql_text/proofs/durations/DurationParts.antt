@@ -1,16 +1,18 @@
 -- What is read as parts is parts, and the other way round.
-use Rattle.std.proofs.Common.{◌≡◌, ⊎_elim, inl, inr, ℕ, ◌+◌, ◌*◌, ◌<◌, true, false, cond, ◌&&◌, List, [], ◌∷◌, ◌++◌, length, Option, Some, None, refl, sym, ap, ◌∙◌, take-append-drop, length-append, arith}
+use Rattle.std.proofs.Common.{◌≡◌, ⊎_elim, inl, inr, ℕ, ◌+◌, ◌*◌, ◌<◌, true, false, cond, ◌&&◌, List, [], ◌∷◌, ◌++◌, length, Option, Some, None, refl, sym, ap, ◌∙◌, take-append-drop, length-append, append_assoc, arith}
 use Rattle.std.specs.Prelude.{not, option_map, ◌==◌}
 use Rattle.std.specs.Char.{is_ascii_digit}
-use Rattle.std.specs.List.{prefix_len}
+use Rattle.std.specs.List.{flat_map, prefix_len, sum_by}
 use Rattle.std.specs.Str.{bytes_eq}
 use Rattle.std.specs.Str.Parse.{digits_value}
 use Rattle.std.proofs.lemmas.Bool.{cond_both, cond-true, cond-false}
+use Rattle.std.proofs.lemmas.List.Sums.{sum_by-cons}
 use Rattle.std.proofs.lemmas.Slice.Eq.{bytes_eq-Decides}
 use Rattle.promql_text.specs.Texts.{Text}
 use Rattle.promql_text.specs.DecimalForm.{front, digit_run, past_run, decimal_form}
 use Rattle.promql_text.specs.Durations.{nanos_of, word_of, units, is_no_digit, word_run, past_word, begins_part, parts_nanos}
-use Rattle.promql_text.specs.DurationForms.{Part, IsCount, AreParts, parts_text, parts_sum}
+use Rattle.promql_text.specs.DurationForms.{AreParts}
+use Rattle.promql_text.specs.DurationReaders.{Part, IsCount, parts_text, parts_sum}
 use Rattle.promql_text.specs.declared.duration.Unit.{Unit}
 use Rattle.promql_text.proofs.durations.SaturatingParts.{parts-end}
 use Rattle.promql_text.proofs.durations.ReadsDuration.{word_letter, word_no_point, word_no_end, word_runs, word_passed, same_word, NoWord, Apart, short_apart}
@@ -94,6 +96,16 @@ parts_form (p ∷ ps) some are =
 pub parts_long : (ps : List Part) → 0 < length ps → AreParts units ps → 0 < length (parts_text ps)
 parts_long [] some are = absurd (omega arith)
 parts_long (p ∷ ps) some are = let is = first_is units p ps are in omega (arith, is.count.0, length-append p.0 (word_of p.1 ++ parts_text ps))
+
+-- ---- as the words of the library have them
+
+pub texts_same : (ps : List Part) → flat_map (λ p. p.0 ++ word_of p.1) ps ≡ parts_text ps
+texts_same [] = refl
+texts_same (p ∷ ps) = ap (λ t. (p.0 ++ word_of p.1) ++ t) (texts_same ps) ∙ append_assoc p.0 (word_of p.1) (parts_text ps)
+
+pub sums_same : (ps : List Part) → sum_by (λ p. digits_value 10 p.0 * nanos_of p.1) ps ≡ parts_sum ps
+sums_same [] = refl
+sums_same (p ∷ ps) = sum_by-cons _ p ps ∙ ap (λ n. digits_value 10 p.0 * nanos_of p.1 + n) (sums_same ps)
 
 -- ---- what is read is parts
 

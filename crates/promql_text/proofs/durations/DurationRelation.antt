@@ -7,11 +7,12 @@ use Rattle.promql_text.specs.Texts.{Text}
 use Rattle.promql_text.specs.DecimalForm.{numeral, reading, Reading, NotANumber, Signed, decimal_form}
 use Rattle.promql_text.specs.DecimalForm as form
 use Rattle.promql_text.specs.Durations.{units, parts_nanos, second_nanos, in_range, of_seconds, of_parts, duration_of}
-use Rattle.promql_text.specs.DurationForms.{Part, IsParts, Meaning, Nanos, Negative, Infinite, Means, IsDuration, parts_text}
+use Rattle.promql_text.specs.DurationForms.{IsParts, Meaning, Nanos, Negative, Infinite, Means, IsDuration}
+use Rattle.promql_text.specs.DurationReaders.{Part, parts_text}
 use Rattle.promql_text.specs.NumeralSpelling.{IsDecimalForm}
 use Rattle.promql_text.specs.declared.duration.DurationFault.{DurationFault}
 use Rattle.promql_text.specs.declared.duration.DurationFault.TheVariants.{Empty, NotPositive, Invalid, Overflow}
-use Rattle.promql_text.proofs.durations.DurationParts.{units_read, parts_form, parts_long, parts_found}
+use Rattle.promql_text.proofs.durations.DurationParts.{units_read, parts_form, parts_long, parts_found, texts_same, sums_same}
 use Rattle.promql_text.proofs.durations.Nearest.{seconds_are, seconds_one}
 use Rattle.promql_text.proofs.durations.SaturatingParts.{duration-empty, duration-form}
 use Rattle.promql_text.proofs.durations.ReadsDuration.{in_range_is}
@@ -45,13 +46,14 @@ form_gives s f h = let is = spelled_form s f h in duration-form s (Some f) (not_
 parts_some : (s : Text) (n : ℕ) → IsParts s n → s ≢ []
 parts_some s n h none =
     let long = parts_long h.0 h.1 h.2 in
-    let short : length (parts_text h.0) ≡ 0 = ap length (sym h.3 ∙ none) in
+    let short : length (parts_text h.0) ≡ 0 = ap length (sym (h.3 ∙ texts_same h.0) ∙ none) in
     omega (arith, long, short)
 
 parts_give : (s : Text) (n : ℕ) → IsParts s n → duration_of s ≡ in_range n
 parts_give s n h =
-    duration-form s None (not_empty s (parts_some s n h)) (ap decimal_form h.3 ∙ parts_form h.0 h.1 h.2)
-    ∙ ap of_parts (ap (parts_nanos units) h.3 ∙ units_read h.0 h.2 ∙ ap Some (sym h.4))
+    let text = h.3 ∙ texts_same h.0 in
+    duration-form s None (not_empty s (parts_some s n h)) (ap decimal_form text ∙ parts_form h.0 h.1 h.2)
+    ∙ ap of_parts (ap (parts_nanos units) text ∙ units_read h.0 h.2 ∙ ap Some (sym (h.4 ∙ sums_same h.0)))
 
 below_zero : (r : Reading) → r ≢ NotANumber → of_seconds true r ≡ Err NotPositive
 below_zero NotANumber other = absurd (other refl)
@@ -81,7 +83,7 @@ parts_meant : (s : Text) (o : Option ℕ) → s ≢ [] → decimal_form s ≡ No
 parts_meant s None some none is = inr (duration-form s None (not_empty s some) none ∙ ap of_parts is)
 parts_meant s (Some n) some none is =
     let f = parts_found units s n is in
-    inl (Nanos n, inl (f.0, some_part f.0 f.2, f.1, f.2, f.3))
+    inl (Nanos n, inl (f.0, some_part f.0 f.2, f.1, f.2 ∙ sym (texts_same f.0), f.3 ∙ sym (sums_same f.0)))
   where
     some_part : (ps : List Part) → s ≡ parts_text ps → 0 < length ps
     some_part [] e = absurd (some e)

@@ -4,7 +4,8 @@ use Rattle.std.specs.Str.Parse.{digits_value}
 use Rattle.promql_text.specs.Texts.{Text}
 use Rattle.promql_text.specs.DecimalForm.{decimal_form}
 use Rattle.promql_text.specs.Durations.{nanos_of, word_of, units, parts_nanos}
-use Rattle.promql_text.specs.DurationForms.{Part, IsCount, AreParts, parts_text}
+use Rattle.promql_text.specs.DurationForms.{AreParts}
+use Rattle.promql_text.specs.DurationReaders.{Part, IsCount, parts_text}
 use Rattle.promql_text.specs.declared.duration.Unit.{Unit}
 use Rattle.promql_text.specs.declared.duration.Unit.TheVariants.{Year, Week, Day, Hour, Minute, Second, Milli}
 use Rattle.promql_text.proofs.durations.DurationParts.{parts_form, units_read}
