@@ -11,21 +11,17 @@ abbrev pub IsSign : Bool → Text → Type 0
 IsSign true s = s ≡ 45 ∷ []
 IsSign false s = (s ≡ []) ⊎ (s ≡ 43 ∷ [])
 
--- a point, or none where no digits follow it
-abbrev pub IsPoint : Text → Text → Type 0
-IsPoint point fraction = (point ≡ 46 ∷ []) ⊎ ((point ≡ []) × (fraction ≡ []))
-
 -- no exponent, or `e` or `E`, a sign or none, and one or more digits
 abbrev pub IsExponent : Numeral → Text → Type 0
 IsExponent n t =
     ((t ≡ []) × (n.is_down ≡ false) × (n.exponent ≡ []))
     ⊎ ((e : ℕ) × (sign : Text) × (t ≡ e ∷ (sign ++ n.exponent)) × ((e ≡ 101) ⊎ (e ≡ 69)) × IsSign n.is_down sign × (0 < length n.exponent) × AllDigits 10 n.exponent)
 
--- digits, a point or none, digits, and an exponent or none; among the first two at least one digit
+-- digits, a point, or none where no digits follow it, digits, and an exponent or none; among the first two at least one digit
 abbrev pub Spells : Numeral → Text → Type 0
 Spells n t =
     (point : Text) × (end : Text) × (t ≡ n.whole ++ (point ++ (n.fraction ++ end))) × AllDigits 10 n.whole × AllDigits 10 n.fraction
-    × (0 < length n.whole + length n.fraction) × IsPoint point n.fraction × IsExponent n end
+    × (0 < length n.whole + length n.fraction) × ((point ≡ 46 ∷ []) ⊎ ((point ≡ []) × (n.fraction ≡ []))) × IsExponent n end
 
 -- `nan`, `inf` or `infinity` in any case, or a numeral
 abbrev pub IsReading : Reading → Text → Type 0

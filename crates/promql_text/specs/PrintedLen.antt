@@ -11,4 +11,4 @@ abbrev pub cap_usize : ℕ → ℕ
 cap_usize n = min n usize_max
 
 abbrev pub printed_len : Text → ℕ
-printed_len t = min (length t) usize_max
+printed_len t = cap_usize (length t)

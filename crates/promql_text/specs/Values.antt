@@ -1,6 +1,6 @@
 -- What is asked of a number, and the number with the other sign (docs/reference/texts.md, "Numbers").
-use Rattle.std.specs.Prelude.{ℕ, Bool, true, false, ◌==◌}
-use Rattle.promql_text.specs.Numbers.{IsExact, negate, seconds_of}
+use Rattle.std.specs.Prelude.{ℕ, Bool, true, false, not, ◌&&◌, ◌==◌}
+use Rattle.promql_text.specs.Numbers.{IsExact, seconds_of}
 use Rattle.promql_text.specs.declared.number.Number.{Number}
 use Rattle.promql_text.specs.declared.number.Number.TheVariants.{Finite, Inf, NegInf, NaN}
 
@@ -8,8 +8,9 @@ use Rattle.promql_text.specs.declared.number.Number.TheVariants.{Finite, Inf, Ne
 abbrev pub from_nanos : ℕ → Number
 from_nanos n = Finite (seconds_of n)
 
+-- the number with the other sign; zero stays zero
 abbrev pub neg : Number → Number
-neg (Finite d) = Finite (negate d)
+neg (Finite d) = Finite (record d { is_negative = not d.is_negative && not (d.digits == 0) })
 neg Inf = NegInf
 neg NegInf = Inf
 neg NaN = NaN

@@ -1,6 +1,6 @@
 -- Which fault a text has: u is what comes before the fault's place, back to the trivia, and v what begins there
 -- (docs/reference/tokens.md, "Faults").
-use Rattle.std.specs.Prelude.{◌≡◌, ℕ, zero, suc, ◌<◌, Bool, true, false, ◌||◌, ◌==◌, List, [], ◌∷◌, ◌++◌, length, codes}
+use Rattle.std.specs.Prelude.{◌≡◌, ℕ, zero, suc, ◌<◌, Bool, true, false, ◌&&◌, ◌||◌, ◌==◌, List, [], ◌∷◌, ◌++◌, length, slice_index, codes}
 use Rattle.std.specs.Char.{is_ascii_digit}
 use Rattle.std.specs.List.{list_all}
 use Rattle.promql_token.specs.declared.class.Class.TheVariants as class
@@ -13,7 +13,7 @@ use Rattle.promql_text.specs.Texts.{Text, code}
 use Rattle.promql_token.specs.Begins.{IsBody, IsNumeral, has_escapes}
 use Rattle.promql_token.specs.Classes.{is_in, is_letter}
 use Rattle.promql_token.specs.Ids.{is_one_of}
-use Rattle.promql_token.specs.Vocabulary.{begins_numeral, holds_strings, is_escape, is_quote, is_spelling, next}
+use Rattle.promql_token.specs.Vocabulary.{holds_strings, is_escape, is_quote, is_spelling, next}
 use Rattle.std.specs.List.{concat}
 
 -- v begins with this byte, after the text w
@@ -44,7 +44,7 @@ IsFault RightParen mode.Outside zero u v = Meets [] (code ")") u v
 IsFault RightBrace mode.Outside depth u v = Meets [] (code "}") u v
 IsFault RightBracket mode.Outside depth u v = Meets [] (code "]") u v
 IsFault Character mode.Outside depth u v = Misses [] (λ b. is_in class.Word b || (is_quote b || is_one_of (codes ".@,*/%+-^{[()}]=!<>") b)) u v
-IsFault Numeral mode.Outside depth u v = (begins_numeral v ≡ true) × NoNumeral u v
+IsFault Numeral mode.Outside depth u v = ((is_ascii_digit (next v) || (next v == code "." && is_ascii_digit (slice_index v 1))) ≡ true) × NoNumeral u v
 IsFault Numeral (mode.Brackets inside) depth u v = (is_ascii_digit (next v) ≡ true) × NoNumeral u v
 IsFault Escape m depth u v = (holds_strings m ≡ true) × (quote : ℕ) × IsEscaping quote u × (0 < length v) × (is_escape quote (next v) ≡ false)
 IsFault EscapeAtEnd m depth u v = (holds_strings m ≡ true) × (quote : ℕ) × IsEscaping quote u × (v ≡ [])

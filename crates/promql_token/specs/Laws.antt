@@ -9,8 +9,8 @@ use Rattle.promql_token.specs.declared.state.State.{State}
 use Rattle.promql_text.specs.Texts.{Text, code}
 use Rattle.promql_token.specs.Classes.{is_in, is_label, is_letter}
 use Rattle.promql_token.specs.Lexing.{pieces, start, lex, tokens, slice_texts}
-use Rattle.promql_token.specs.TokenScanning.{trivia_from, scan_token, after}
-use Rattle.promql_token.specs.Vocabulary.{begins_numeral, braces_id, is_quote, word_id}
+use Rattle.promql_token.specs.TokenScanning.{begins_numeral, trivia_from, scan_token, after}
+use Rattle.promql_token.specs.Vocabulary.{braces_id, is_quote, word_id}
 pub use Rattle.promql_token.specs.Vocabulary.{is_exponent, is_sign, is_word}
 
 -- ---- spans

@@ -13,7 +13,7 @@ use Rattle.promql_token.specs.declared.state.Mode.TheVariants as mode
 use Rattle.promql_token.specs.declared.state.State.{State}
 use Rattle.promql_text.specs.Texts.{Text, code}
 use Rattle.promql_token.specs.Classes.{is_letter, end_of_run}
-pub use Rattle.promql_token.specs.Vocabulary.{begins_numeral, braces_id, is_escape, is_fill, is_line_end, is_quote, is_unit, name_id, opens, word_id}
+pub use Rattle.promql_token.specs.Vocabulary.{braces_id, is_escape, is_fill, is_line_end, is_quote, is_unit, name_id, opens, word_id}
 
 -- ---- trivia
 
@@ -46,6 +46,9 @@ unfoldable pub word_in_braces : Text → Scanned
 word_in_braces z = let len = end_of_run class.Name z 0 in Ok (braces_id (take len z) (drop len z), len)
 
 -- ---- numerals
+
+abbrev pub begins_numeral : Text → Bool
+begins_numeral z = is_ascii_digit (slice_index z 0) || (slice_index z 0 == code "." && is_ascii_digit (slice_index z 1))
 
 abbrev pub is_hex : Text → Bool
 is_hex z = slice_index z 0 == code "0" && (slice_index z 1 == 120 || slice_index z 1 == 88)

@@ -47,9 +47,6 @@ braces_id w rest = if str_eq_ignore_ascii_case w (codes "or") && slice_index res
 
 -- ---- numerals
 
-abbrev pub begins_numeral : Text → Bool
-begins_numeral z = is_ascii_digit (slice_index z 0) || (slice_index z 0 == code "." && is_ascii_digit (slice_index z 1))
-
 abbrev pub is_sign : ℕ → Bool
 is_sign b = b == code "+" || b == code "-"
 

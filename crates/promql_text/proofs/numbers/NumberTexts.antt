@@ -15,7 +15,8 @@ use Rattle.promql_text.specs.DecimalForm as form
 use Rattle.promql_text.specs.NumberText.{hexadecimal, is_digit_below, is_octal, is_past_octal, is_x, number_of, of_form, radix_number, apply_sign}
 use Rattle.promql_text.specs.NumberForms.{IsInRadix, BeginsOctal, Meaning, Whole, Decimal, Means}
 use Rattle.promql_text.specs.Numbers.{whole}
-use Rattle.promql_text.specs.NumeralSpelling.{IsSign, IsPoint, IsExponent, IsReading, IsDecimalForm}
+use Rattle.promql_text.specs.DecimalParts.{IsPoint}
+use Rattle.promql_text.specs.NumeralSpelling.{IsSign, IsExponent, IsReading, IsDecimalForm}
 use Rattle.promql_text.specs.declared.number.Number.{Number}
 use Rattle.promql_text.specs.declared.number.Number.TheVariants as number
 use Rattle.promql_text.specs.declared.number.NumberFault.{NumberFault}

@@ -7,7 +7,8 @@ use Rattle.std.specs.Str.Parse.{AllDigits}
 use Rattle.std.proofs.lemmas.Bool.{eq-eqb, eqb-true, ne_eqb}
 use Rattle.promql_text.specs.Texts.{Text}
 use Rattle.promql_text.specs.DecimalForm.{front, digit_run, past_run, past_point, without_sign, is_minus, is_exponent, ends_well, Numeral, numeral}
-use Rattle.promql_text.specs.NumeralSpelling.{IsSign, IsPoint, IsExponent, Spells}
+use Rattle.promql_text.specs.NumeralSpelling.{IsSign, IsExponent, Spells}
+use Rattle.promql_text.specs.DecimalParts.{IsPoint}
 use Rattle.promql_text.proofs.numerals.Runs.{run_digits, past_run_digit, past_run_other, digit_run_digit, digit_run_other, run_append, past_append, run_all, past_all, front_digit}
 use Rattle.promql_text.proofs.numerals.TextForms.{digit_no_sign, digit_no_minus}
 
