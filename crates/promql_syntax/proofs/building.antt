@@ -8,3 +8,4 @@ pub mod MatcherBuilding
 pub mod MoreArguments
 pub mod SingleAnswers
 pub mod SmallAnswers
+pub mod SuchPatterns

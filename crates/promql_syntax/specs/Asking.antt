@@ -52,5 +52,5 @@ AreAnswersOf answers = AllByRecursion (λ a. a.answer ≡ answers a.about)
 -- building ends in the result, with answers that are allowed
 pub record EndsIn {A : Type 0} (building : Asking A) (result : Result A BuildError) : Type 0 where
   pub answers : List Asked
-  pub allowed : AreAllowed answers
+  pub allowed : AllByRecursion (λ a. Allows a.about a.answer) answers
   pub ends : Ends building answers result

@@ -16,10 +16,10 @@ pub data BuildError : Type 0 where
   quoted : BuildError
   duration : DurationFault → BuildError
   at : AtFault → BuildError
-  pattern : Text → BuildError
-  unknown_function : Text → BuildError
+  pattern unknown_function : Text → BuildError
   check : trees.Fault → BuildError
 
+-- Private from here on: nothing rests on believing it. The faults of the code, with their places, are those.
 abbrev pub build_fault_of : BuildFault → BuildError
 build_fault_of (faults.Number f) = number f
 build_fault_of faults.Quoted = quoted

@@ -1,12 +1,16 @@
 -- What a derivation builds (docs/reference/grammar.md, "Building"): its parts first, then its own tokens, then its
 -- checks.
-use Rattle.std.specs.Prelude.{◌==◌, if◌then◌else◌, Option, Some, None, []}
+use Rattle.std.specs.Prelude.{◌==◌, if◌then◌else◌, Option, Some, None, Ok, []}
 use Rattle.std.specs.Option.{option_map_or}
 use Rattle.promql_text.specs.Texts.{Text}
+use Rattle.promql_text.specs.Durations.{duration_of}
+use Rattle.promql_text.specs.NumberText.{read_number}
 use Rattle.promql_text.specs.Numbers.{seconds_of}
 use Rattle.promql_text.specs.declared.number.Number.TheVariants.{Finite}
 use Rattle.promql_token.specs.declared.ids.TheConstants.{T_SUB}
 use Rattle.promql_grammar.specs.GrammarParts as part
+use Rattle.promql_grammar.specs.GrammarParts.{is_minus}
+use Rattle.promql_grammar.specs.Results.{on_result, ◌then◌}
 use Rattle.promql_grammar.specs.Grammar as grammar
 use Rattle.promql_label.specs.PlainMatchers.{PlainMatchers, plain_matchers}
 use Rattle.promql_kind.specs.Functions.{function_named}
@@ -14,12 +18,13 @@ use Rattle.promql_ast.specs.Builds.{minus, with_range, at_given, offset_given, m
 use Rattle.promql_ast.specs.Checked.{check_tree}
 use Rattle.promql_ast.specs.Faults.{Verdict, passes, rejected}
 use Rattle.promql_ast.specs.Selectors.{selector}
-use Rattle.promql_ast.specs.Shifts.{at_start, at_end}
+use Rattle.promql_ast.specs.AtTimes.{at_of_number}
+use Rattle.promql_ast.specs.Shifts.{at_start, at_end, back, ahead, moment_of}
 use Rattle.promql_ast.specs.Tree as tree
 use Rattle.promql_ast.specs.declared.range_mode.RangeMode.TheVariants.{Smoothed, Anchored}
 use Rattle.promql_syntax.specs.Asking.{Asking, gives, fails, ◌giving◌, known}
-use Rattle.promql_syntax.specs.BuildErrors.{unknown_function, check}
-use Rattle.promql_syntax.specs.PartBuilding.{string_value, number_value, duration_value, time_value, if_given, shift_value, moment_value, grouping_value, modifier_value, braces_value}
+use Rattle.promql_syntax.specs.BuildErrors.{number, duration, at, unknown_function, check}
+use Rattle.promql_syntax.specs.PartBuilding.{on_error, string_value, signed_number, time_value, if_given, grouping_value, modifier_value, braces_value}
 
 -- a tree that passes, or the error of a check
 abbrev pub from_verdict : Verdict → Asking tree.Tree
@@ -38,16 +43,18 @@ abbrev pub build_postfix : tree.Tree → part.Postfix → Asking tree.Tree
 build_postfix t (part.range r) = known (time_value r) giving λ n. from_verdict (with_range t n)
 build_postfix t (part.subquery r s) =
     known (time_value r) giving λ n. known (if_given time_value s) giving λ m. from_verdict (check_tree (tree.subquery t None None n m))
-build_postfix t (part.at_number s text) = known (moment_value s text) giving λ m. from_verdict (at_given t m)
+build_postfix t (part.at_number s text) =
+    known (signed_number s text then λ n. on_error at (on_result moment_of (at_of_number n))) giving λ m. from_verdict (at_given t m)
 build_postfix t (part.at_bound start text) = from_verdict (at_given t (if start then at_start else at_end))
-build_postfix t (part.offset text s r) = known (shift_value s r) giving λ x. from_verdict (offset_given t x)
+build_postfix t (part.offset text s r) =
+    known (time_value r then λ n. Ok (if is_minus s then ahead n else back n)) giving λ x. from_verdict (offset_given t x)
 build_postfix t (part.mode smoothed text) = from_verdict (mode_given t (if smoothed then Smoothed else Anchored))
 
 -- "Unary operators": a plus leaves nothing; "Calls": the name is looked up after the arguments
 abbrev mutual
   pub build : grammar.Derivation → Asking tree.Tree
-  build (grammar.number text) = known (number_value text) giving λ n. gives (tree.number n)
-  build (grammar.duration text) = known (duration_value text) giving λ n. gives (tree.number (Finite (seconds_of n)))
+  build (grammar.number text) = known (on_error number (read_number text)) giving λ n. gives (tree.number n)
+  build (grammar.duration text) = known (on_error duration (duration_of text)) giving λ n. gives (tree.number (Finite (seconds_of n)))
   build (grammar.string text) = known (string_value text) giving λ s. gives (tree.string s)
   build (grammar.selector k text b) = option_map_or braces_value b (gives (plain_matchers [] [])) giving λ cs. selector_tree (Some text) cs
   build (grammar.nameless b) = braces_value b giving λ cs. selector_tree None cs

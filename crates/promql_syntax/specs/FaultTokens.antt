@@ -39,21 +39,18 @@ abbrev mutual
   subexpressions_of k grammar.none = []
   subexpressions_of k (grammar.more d ds) = subexpressions (rest_count ds + k) d ++ subexpressions_of k ds
 
-abbrev pub Builds : Subexpression → Type 0
-Builds (after, d) = (t : Tree) × EndsIn (build d) (Ok t)
-
 -- the first of these that does not build has the fault
 abbrev pub IsFirstFault : BuildError → List Subexpression → Subexpression → Type 0
 IsFirstFault fault subs sub =
-    (before rest : List Subexpression) × (subs ≡ before ++ sub ∷ rest) × All Builds before × EndsIn (build sub.1) (Err fault)
+    (before rest : List Subexpression) × (subs ≡ before ++ sub ∷ rest) × All (λ x. (t : Tree) × EndsIn (build x.1) (Ok t)) before
+    × EndsIn (build sub.1) (Err fault)
 
 -- the tokens that a fault of an expression is about, where it is told which: how many are left from the first of them, and after the last
 abbrev modifier_tokens : ℕ → part.Modifier → Derivation → Option (ℕ × ℕ)
 modifier_tokens k m r = Some (length (yield_modifier m) + (length (yield r) + k), length (yield r) + k)
 
 abbrev pub fault_tokens : BuildError → ℕ → Derivation → Option (ℕ × ℕ)
-fault_tokens (unknown_function name) k (grammar.call w text ds) =
-    Some (2 + (length (yield_arguments [] ds) + k), 1 + (length (yield_arguments [] ds) + k))
+fault_tokens (unknown_function name) k (grammar.call w text ds) = let n = length (yield_arguments [] ds) + k in Some (2 + n, 1 + n)
 fault_tokens (at fault) k (grammar.postfixed d (part.at_number s text)) = Some (length (yield_signed s) + (1 + k), k)
 fault_tokens (check (node fault)) k (grammar.postfixed d p) = Some (length (yield_postfix p) + k, k)
 fault_tokens (check bool_modifier) k (grammar.binary op text m l r) = modifier_tokens k m r
@@ -61,3 +58,7 @@ fault_tokens (check (label_twice label)) k (grammar.binary op text m l r) = modi
 fault_tokens (check (no_grouping set)) k (grammar.binary op text m l r) = modifier_tokens k m r
 fault_tokens (check vector_matching) k (grammar.binary op text m l r) = modifier_tokens k m r
 fault_tokens fault k d = None
+
+-- A word for proofs: nothing rests on believing it.
+abbrev pub Builds : Subexpression → Type 0
+Builds (after, d) = (t : Tree) × EndsIn (build d) (Ok t)

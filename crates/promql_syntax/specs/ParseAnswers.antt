@@ -1,6 +1,6 @@
 -- The answer to a text (docs/reference/grammar.md, "The answer to a text").
 use Rattle.std.specs.Prelude.{◌≡◌, ◌≢◌, ◌↔◌, ◌+◌, ◌<◌, ◌≤◌, List, [], ◌∷◌, length, map, Result, Ok, Err, string_bytes}
-use Rattle.std.specs.Result.{result_map_both}
+use Rattle.std.specs.List.{AllByRecursion}
 use Rattle.promql_text.specs.Texts.{Text}
 use Rattle.promql_token.specs.declared.fault.LexFault.{LexFault}
 use Rattle.promql_grammar.specs.SourceTokens.{Token, tokens}
@@ -11,15 +11,13 @@ use Rattle.promql_ast.specs.Normal.{normal}
 use Rattle.promql_ast.specs.Text.{text as line_text}
 use Rattle.promql_ast.specs.Tree.{Tree}
 use Rattle.promql_ast.specs.Typed.{Typed}
-use Rattle.promql_ast.specs.View.{tree_of}
-use Rattle.promql_ast.specs.declared.expr.Expr.{Expr}
 use Rattle.promql_grammar.specs.Grammar.{Derivation, yield, height, IsWellFormed}
 use Rattle.promql_grammar.specs.Results.{on_result}
 use Rattle.promql_grammar.specs.Symbols.{Symbol, symbol_of}
 use Rattle.promql_syntax.specs.declared.parser.ParseError.{ParseError}
 use Rattle.promql_syntax.specs.declared.parser.ParseError.TheVariants as errors
 use Rattle.promql_syntax.specs.declared.parser.TheConstants.{MAX_DEPTH}
-use Rattle.promql_syntax.specs.Asking.{Asked, AreAllowed, AreAnswersOf, Ends, under}
+use Rattle.promql_syntax.specs.Asking.{Asked, AreAnswersOf, Ends, under}
 use Rattle.promql_syntax.specs.Building.{build}
 use Rattle.promql_syntax.specs.PartBuilding.{on_error}
 use Rattle.promql_syntax.specs.BuildErrors.{BuildError, number, quoted, duration, at, pattern, unknown_function, check}
@@ -44,10 +42,6 @@ plain_error_of (errors.Pattern value) = fault (pattern (string_bytes value))
 plain_error_of (errors.UnknownFunction name) = fault (unknown_function (string_bytes name))
 plain_error_of (errors.Check f) = fault (check (trees.fault_of f))
 
--- the answer of the code, as plain data
-abbrev pub answer_of : Result Expr ParseError → Result Tree PlainParseError
-answer_of result = result_map_both tree_of plain_error_of result
-
 -- the derivation is well formed, and spells the tokens of the text before its end
 pub record Derives (text : Text) (d : Derivation) : Type 0 where
   pub formed : IsWellFormed d
@@ -58,13 +52,12 @@ abbrev pub HasTree : (Text → regex.Answer) → Text → Tree → Type 0
 HasTree g text t = (d : Derivation) × Derives text d × (height d ≤ MAX_DEPTH) × (under g (build d) ≡ Ok t)
 
 -- `regex` allows these answers, and with them the answer is what is built: where it is a tree or a fault of building, it
--- is, and where there is a derivation, nothing else is; as well if each pattern has one answer, and then the one-line text of
--- a tree has the tree's normal form
+-- is, and where there is a derivation, nothing else is; and if each pattern has one answer, then the one-line text of a tree has the tree's
+-- normal form
 pub record IsServed (text : Text) (answers : List Asked) (answer : Result Tree PlainParseError) : Type 0 where
-  pub allowed : AreAllowed answers
+  pub allowed : AllByRecursion (λ a. regex.Allows a.about a.answer) answers
   pub built : (r : _) → answer ≡ on_error fault r → (d : Derivation) × Derives text d × (height d ≤ MAX_DEPTH) × Ends (build d) answers r
   pub only : (d : Derivation) → Derives text d → height d ≤ MAX_DEPTH → (r : _) × Ends (build d) answers r × (answer ≡ on_error fault r)
-  pub single : (g : Text → regex.Answer) → AreAnswersOf g answers → (d : Derivation) → Derives text d → height d ≤ MAX_DEPTH → answer ≡ on_error fault (under g (build d))
   pub reads_back : (g : Text → regex.Answer) → AreAnswersOf g answers → (t : Tree) → answer ≡ Ok t → HasTree g (line_text t) (normal t)
 
 -- what `parse` promises of its answer to a text; only memory running out may come in place of what is built, of Syntax and of TooDeep;

@@ -28,35 +28,20 @@ on_error error result = result_map_both (λ x. x) error result
 
 -- the value of a part, if there is one
 abbrev pub if_given : {A B : Type 0} → (A → Result B BuildError) → Option A → Result (Option B) BuildError
-if_given value None = Ok None
-if_given value (Some part) = value part then λ x. Ok (Some x)
+if_given value part = option_map_or (λ x. value x then λ y. Ok (Some y)) part (Ok None)
 
 -- "Strings"
 abbrev pub string_value : Text → Result Text BuildError
 string_value text = ok_or (unquoted_text text) quoted
 
--- "Numbers"
-abbrev pub number_value : Text → Result Number BuildError
-number_value text = on_error number (read_number text)
-
--- "Signs"
+-- "Numbers" and "Signs"
 abbrev pub signed_number : part.Signed → Text → Result Number BuildError
-signed_number s text = number_value text then λ n. Ok (if is_minus s then neg n else n)
+signed_number s text = on_error number (read_number text) then λ n. Ok (if is_minus s then neg n else n)
 
 -- "Times": nanoseconds
-abbrev pub duration_value : Text → Result ℕ BuildError
-duration_value text = on_error duration (duration_of text)
-
 abbrev pub time_value : part.Time → Result ℕ BuildError
-time_value (part.seconds text) = duration_value text
-time_value (part.duration text) = duration_value text
-
--- "Offset and @"
-abbrev pub shift_value : part.Signed → part.Time → Result Shift BuildError
-shift_value s t = time_value t then λ n. Ok (if is_minus s then ahead n else back n)
-
-abbrev pub moment_value : part.Signed → Text → Result Moment BuildError
-moment_value s text = signed_number s text then λ n. on_error at (on_result moment_of (at_of_number n))
+time_value (part.seconds text) = on_error duration (duration_of text)
+time_value (part.duration text) = on_error duration (duration_of text)
 
 -- "Labels": a string means its text
 abbrev pub label_value : TokenKind → Text → Result Text BuildError
@@ -81,16 +66,13 @@ abbrev pub matching_value : part.Matching → Result (Cardinality × Option Clau
 matching_value None = Ok (one_to_one, None)
 matching_value (Some (on, text, ls, g)) = label_values ls then λ x. group_value g then λ c. Ok (c, Some (if on then including x else excluding x))
 
-abbrev pub fill_value : part.FillValue → Result Number BuildError
-fill_value (s, text) = signed_number s text
-
 -- the right side's value comes first
 abbrev pub fills_value : part.Fills → Result Fills BuildError
 fills_value part.no_fill = Ok (fills None None)
-fills_value (part.both text v) = fill_value v then λ n. Ok (fills (Some n) (Some n))
-fills_value (part.one left text v) = fill_value v then λ n. Ok (if left then fills None (Some n) else fills (Some n) None)
+fills_value (part.both text v) = signed_number v.0 v.1 then λ n. Ok (fills (Some n) (Some n))
+fills_value (part.one left text v) = signed_number v.0 v.1 then λ n. Ok (if left then fills None (Some n) else fills (Some n) None)
 fills_value (part.two left text v text' w) =
-    fill_value v then λ n. fill_value w then λ m. Ok (if left then fills (Some m) (Some n) else fills (Some n) (Some m))
+    signed_number v.0 v.1 then λ n. signed_number w.0 w.1 then λ m. Ok (if left then fills (Some m) (Some n) else fills (Some n) (Some m))
 
 -- none, where nothing comes between the operator and its right side
 abbrev pub modifier_value : part.Modifier → Result (Option Matching) BuildError
@@ -110,17 +92,33 @@ operator_value part.not_equal_regex value = asks value (pattern_operator matches
 
 abbrev pub item_value : part.Item → Asking PlainMatcher
 item_value (part.matcher is_quoted text s string) =
-    known (label_value (part.name_kind is_quoted) text) giving λ name. known (string_value string) giving λ value.
+    known (label_value (if is_quoted then kind.String else kind.Identifier) text) giving λ name. known (string_value string) giving λ value.
     operator_value s value giving λ op. gives (plain_matcher op name value)
 item_value (part.lone text) = known (string_value text) giving λ name. gives (plain_matcher equal (codes "__name__") name)
 
-abbrev pub append_matcher : part.Separator → PlainMatchers → PlainMatcher → PlainMatchers
+abbrev pub append_matcher : Option Text → PlainMatchers → PlainMatcher → PlainMatchers
 append_matcher s = if is_some s then appended_or else append_plain
 
 -- the matchers so far, and what comes before the next
-abbrev pub items_value : PlainMatchers → part.Separator → part.Items → Asking PlainMatchers
+abbrev pub items_value : PlainMatchers → Option Text → part.Items → Asking PlainMatchers
 items_value cs s (part.last_item i comma) = item_value i giving λ c. gives (append_matcher s cs c)
 items_value cs s (part.next_item i t is) = item_value i giving λ c. items_value (append_matcher s cs c) t is
 
 abbrev pub braces_value : part.Braces → Asking PlainMatchers
 braces_value b = option_map_or (items_value (plain_matchers [] []) None) b (gives (plain_matchers [] []))
+
+-- Words for parts of these, which proofs and private definitions have: nothing rests on believing them.
+abbrev pub number_value : Text → Result Number BuildError
+number_value text = on_error number (read_number text)
+
+abbrev pub duration_value : Text → Result ℕ BuildError
+duration_value text = on_error duration (duration_of text)
+
+abbrev pub shift_value : part.Signed → part.Time → Result Shift BuildError
+shift_value s t = time_value t then λ n. Ok (if is_minus s then ahead n else back n)
+
+abbrev pub moment_value : part.Signed → Text → Result Moment BuildError
+moment_value s text = signed_number s text then λ n. on_error at (on_result moment_of (at_of_number n))
+
+abbrev pub fill_value : part.FillValue → Result Number BuildError
+fill_value (s, text) = signed_number s text

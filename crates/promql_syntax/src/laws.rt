@@ -1,16 +1,22 @@
 //! Laws: the contracts of functions that do nothing.
 
-ghost use Rattle.std.specs.Prelude.{◌≡◌, ◌↔◌, ℕ, List, Result, Ok};
+ghost use Rattle.std.specs.Prelude.{◌≡◌, ◌↔◌, ◌+◌, ◌≤◌, ℕ, List, [], ◌∷◌, length, Result, Ok};
 ghost use Rattle.promql_text.specs.Equalities.{IsSameBy};
-ghost use Rattle.promql_grammar.specs.Grammar.{Derivation, IsWellFormed, yield};
+ghost use Rattle.promql_grammar.specs.Grammar.{Arguments, Derivation, IsWellFormed, height, yield, yield_arguments};
+ghost use Rattle.promql_grammar.specs.Symbols.{punct};
+ghost use Rattle.promql_grammar.specs.declared.token_kinds.TokenKind.TheVariants as kind;
 ghost use Rattle.promql_text.specs.Texts.{Text};
 ghost use Rattle.promql_label.specs.Answers.{Answer, pattern_answer};
 ghost use Rattle.promql_ast.specs.Layout.{layout_of};
 ghost use Rattle.promql_ast.specs.Normal.{normal};
 ghost use Rattle.promql_ast.specs.Text.{text};
 ghost use Rattle.promql_ast.specs.Tree.{Tree};
-ghost use Rattle.promql_syntax.specs.ParseAnswers.{HasTree, IsServed, PlainParseError, plain_error_of};
-ghost use Rattle.promql_syntax.specs.Asking.{AreAnswersOf, Asked};
+ghost use Rattle.promql_syntax.specs.ParseAnswers.{Derives, HasTree, IsServed, PlainParseError, fault, plain_error_of};
+ghost use Rattle.promql_syntax.specs.Asking.{AreAnswersOf, Asked, Asking, Ends, under};
+ghost use Rattle.promql_syntax.specs.BuildErrors.{BuildError};
+ghost use Rattle.promql_syntax.specs.Building.{build};
+ghost use Rattle.promql_syntax.specs.FaultTokens.{rest_count};
+ghost use Rattle.promql_syntax.specs.PartBuilding.{on_error};
 ghost use Rattle.promql_syntax.specs.TreePatterns.{HasSmallPatterns};
 ghost use Rattle.promql_syntax.specs.declared.parser.TheConstants.{MAX_DEPTH};
 
@@ -28,12 +34,29 @@ pub fn one_tree()
     promql_grammar::laws::one_tree();
 }
 
+/// The tokens of arguments that follow another, and of the commas before them, are those up to the closing parenthesis.
+pub fn argument_counts()
+    ensures { (ds : Arguments) → 1 + rest_count ds ≡ length (yield_arguments (punct kind.Comma ∷ []) ds) }
+{}
+
 /// Errors are equal exactly if they are of one kind, with the same data.
 pub fn equal_errors()
     ensures { IsSameBy plain_error_of ⟦<ParseError as PartialEq>⟧.eq }
 {
     promql_token::laws::equal_faults();
 }
+
+/// With one answer for each pattern, building ends exactly in what it ends in with these answers; and where there is a
+/// derivation, the answer to the text is what that builds.
+pub fn single_answers()
+    ensures ends { (g : Text → Answer) (building : Asking Tree) (result : Result Tree BuildError)
+        → (under g building ≡ result)
+        ↔ ((answers : List Asked) × AreAnswersOf g answers × Ends building answers result) }
+    ensures built { (g : Text → Answer) (source : Text) (answers : List Asked)
+        (answer : Result Tree PlainParseError) → IsServed source answers answer → AreAnswersOf g answers
+        → (d : Derivation) → Derives source d → height d ≤ MAX_DEPTH
+        → answer ≡ on_error fault (under g (build d)) }
+{}
 
 /// With one answer for each pattern, the answer to a text is a tree exactly if the text has it.
 pub fn answers_are_trees()

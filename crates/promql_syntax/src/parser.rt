@@ -1,8 +1,10 @@
 //! From a text to its tree.
 
 ghost use Rattle.std.specs.Prelude.{◌≡◌};
+ghost use Rattle.std.specs.Result.{result_map_both};
 ghost use Rattle.promql_grammar.specs.SourceTokens.{tokens, has_any};
-ghost use Rattle.promql_syntax.specs.ParseAnswers.{IsAnswerTo, answer_of};
+ghost use Rattle.promql_ast.specs.View.{tree_of};
+ghost use Rattle.promql_syntax.specs.ParseAnswers.{IsAnswerTo, plain_error_of};
 ghost use Rattle.promql_syntax.specs.ParseErrors.{error_of_build, first_error};
 
 use crate::grammar::build_error::{BuildError, BuildFault};
@@ -120,7 +122,7 @@ impl From<BuildFault> for ParseError {
 /// `Empty` and `Lex` come before any other error, out of memory included: a text that is rejected
 /// is lexed once more, without an allocation. A text that is accepted is lexed once.
 pub fn parse(alloc: Global, text: &str) -> Result<Expr, ParseError>
-    ensures { IsAnswerTo text.now (answer_of result) }
+    ensures { IsAnswerTo text.now (result_map_both tree_of plain_error_of result) }
 {
     promql_ast::laws::checked_trees_are_typed();
     let mut tokens = Tokens::new(text);

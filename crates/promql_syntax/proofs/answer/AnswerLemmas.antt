@@ -68,7 +68,6 @@ none_answer text e none build_errors no_syntax no_deep no_memory is_empty is_lex
       allowed = tt;
       built = none_built build_errors;
       only = λ d derives low. absurd (none d derives);
-      single = λ g single d derives low. absurd (none d derives);
       reads_back = λ g single t same. cc;
     },
   );
@@ -176,9 +175,6 @@ module _ (text : Text) (list : List Token) (is : tokens text ≡ Ok list) (some 
       subst (λ e. Ends (build e) whole.answers r) (one_derivation whole.derivation d whole.formed derives.formed (whole.spells ∙ sym (yield_is d derives))) whole.is,
       refl,
     );
-    single = λ g single d derives low.
-        ap (on_error fault) (ends_under g (build d) whole.answers r
-        (subst (λ e. Ends (build e) whole.answers r) (one_derivation whole.derivation d whole.formed derives.formed (whole.spells ∙ sym (yield_is d derives))) whole.is) single);
     reads_back = λ g single t same. text_reads_back g text t (
       whole.derivation,
       derives_of whole.derivation whole.formed whole.spells,
@@ -238,7 +234,6 @@ module _ (text : Text) (list : List Token) (is : tokens text ≡ Ok list) (some 
     allowed = tt;
     built = none_built e build_errors;
     only = λ d derives low. absurd (none d derives.formed low (yield_is d derives));
-    single = λ g single d derives low. absurd (none d derives.formed low (yield_is d derives));
     reads_back = λ g single t same. cc;
   }
     where

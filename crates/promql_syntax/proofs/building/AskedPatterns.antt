@@ -36,7 +36,7 @@ use Rattle.promql_syntax.specs.PartBuilding.{append_matcher, braces_value, durat
 use Rattle.promql_syntax.specs.Atoms.{any_braces_value}
 use Rattle.promql_syntax.proofs.readback.CheckedAgain.{aggregate_again, aggregates, arguments, call_again, same_tree, unary_again}
 use Rattle.promql_syntax.proofs.printed.PrintedModifiers.{binary_checked}
-use Rattle.promql_syntax.specs.TreePatterns.{MatcherPattern, NodePatterns, SelectorPatterns, TreePatterns}
+use Rattle.promql_syntax.proofs.building.SuchPatterns.{MatcherPattern, NodePatterns, SelectorPatterns, TreePatterns}
 use Rattle.promql_syntax.specs.PartWords.{build_call, clause_value, step_value}
 
 -- an end of two steps is an end of each, in turn

@@ -1,5 +1,5 @@
 -- Building that asks: what follows a value, and what follows an error.
-use Rattle.std.proofs.Common.{◌≡◌, refl, ◌∙◌, ap, subst, List, [], ◌∷◌, ◌++◌}
+use Rattle.std.proofs.Common.{◌≡◌, ◌↔◌, refl, sym, ◌∙◌, ap, subst, List, [], ◌∷◌, ◌++◌}
 use Rattle.std.specs.Prelude.{Result, Ok, Err}
 use Rattle.std.specs.declared.alloc.Global.{Global}
 use Rattle.std.specs.declared.boxed.Box.{Box}
@@ -65,3 +65,25 @@ ends_under g (asks v next) [] r ends single = absurd ends
 ends_under g (asks v next) (a ∷ xs) r ends single =
     let same : a.answer ≡ g v = single.0 ∙ ap g ends.0 in
     ends_under g (next a.answer) xs r ends.1 single.1 ∙ ap (λ x. under g (next x)) same
+
+-- what is asked, with these answers
+abbrev pub path : {A : Type 0} → (Text → Answer) → Asking A → List Asked
+path g (gives x) = []
+path g (fails fault) = []
+path g (asks v next) = record { about = v; answer = g v } ∷ path g (next (g v))
+
+pub path_ends : {A : Type 0} (g : Text → Answer) (m : Asking A) → Ends m (path g m) (under g m)
+path_ends g (gives x) = refl
+path_ends g (fails fault) = refl
+path_ends g (asks v next) = (refl, path_ends g (next (g v)))
+
+path_answers : {A : Type 0} (g : Text → Answer) (m : Asking A) → AreAnswersOf g (path g m)
+path_answers g (gives x) = tt
+path_answers g (fails fault) = tt
+path_answers g (asks v next) = (refl, path_answers g (next (g v)))
+
+pub single_ends : {A : Type 0} (g : Text → Answer) (m : Asking A) (r : Result A BuildError) → (under g m ≡ r) ↔ ((answers : List Asked) × AreAnswersOf g answers × Ends m answers r)
+single_ends g m r = (
+  λ same. (path g m, path_answers g m, subst (Ends m (path g m)) same (path_ends g m)),
+  λ h. sym (ends_under g m h.0 r h.2 h.1),
+)

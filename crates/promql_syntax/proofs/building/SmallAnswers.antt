@@ -3,32 +3,22 @@ use Rattle.std.proofs.Common.{◌≡◌, Bool, true, List, [], ◌∷◌, Result
 use Rattle.promql_text.specs.Texts.{Text}
 use Rattle.promql_label.specs.Answers.{Allows, Answer}
 use Rattle.promql_ast.specs.Tree.{Tree}
-use Rattle.promql_syntax.specs.Asking.{AreAllowed, AreAnswersOf, Asked, Asking, asks, Ends, fails, gives, under}
+use Rattle.promql_syntax.specs.Asking.{AreAllowed, AreAnswersOf, Asked, Asking, asks, Ends, fails, gives}
 use Rattle.promql_syntax.specs.Building.{build}
 use Rattle.promql_syntax.specs.BuildErrors.{BuildError}
 use Rattle.promql_syntax.specs.ParseAnswers.{HasTree, IsServed, PlainParseError}
-use Rattle.promql_syntax.specs.TreePatterns.{TreePatterns}
+use Rattle.promql_syntax.proofs.building.SuchPatterns.{TreePatterns}
 use Rattle.promql_syntax.proofs.building.AskedPatterns.{AreAboutSuch, asked_about}
+use Rattle.promql_syntax.proofs.building.Ending.{path, path_ends}
 use Rattle.promql_syntax.proofs.readback.CanonicalTexts.{answer_has, has_answer}
 
 module _ (is_such : Text → Bool) (g : Text → Answer) (one : (v : Text) → is_such v ≡ true → (a : Answer) → Allows v a → a ≡ g v) where
-  -- what is asked where each pattern has one answer
-  abbrev path : {A : Type 0} → Asking A → List Asked
-  path (gives x) = []
-  path (fails fault) = []
-  path (asks v next) = record { about = v; answer = g v } ∷ path (next (g v))
-
-  path_ends : {A : Type 0} (m : Asking A) → Ends m (path m) (under g m)
-  path_ends (gives x) = refl
-  path_ends (fails fault) = refl
-  path_ends (asks v next) = (refl, path_ends (next (g v)))
-
   pub allowed_are_answers : (answers : List Asked) → AreAboutSuch is_such answers → AreAllowed answers → AreAnswersOf g answers
   allowed_are_answers [] such allowed = tt
   allowed_are_answers (a ∷ more) such allowed = (one a.about such.0 a.answer allowed.0, allowed_are_answers more such.1 allowed.1)
 
   -- answers that are allowed are those of the path, where each question on it is such
-  path_is_taken : {A : Type 0} (m : Asking A) (answers : List Asked) (result : Result A BuildError) → AreAboutSuch is_such (path m) → AreAllowed answers → Ends m answers result → AreAnswersOf g answers
+  path_is_taken : {A : Type 0} (m : Asking A) (answers : List Asked) (result : Result A BuildError) → AreAboutSuch is_such (path g m) → AreAllowed answers → Ends m answers result → AreAnswersOf g answers
   path_is_taken (gives x) [] result such allowed h = tt
   path_is_taken (gives x) (a ∷ more) result such allowed h = absurd h
   path_is_taken (fails fault) [] result such allowed h = tt
@@ -46,6 +36,6 @@ module _ (is_such : Text → Bool) (g : Text → Answer) (one : (v : Text) → i
   pub tree_is_answer : (source : Text) (answers : List Asked) (answer : Result Tree PlainParseError) (t : Tree) → IsServed source answers answer → HasTree g source t → TreePatterns is_such t → answer ≡ Ok t
   tree_is_answer source answers answer t served has small =
       let only = served.only has.0 has.1 has.2 in
-      let such = asked_about is_such has.0 (path (build has.0)) t (subst (Ends (build has.0) (path (build has.0))) has.3 (path_ends (build has.0))) small in
+      let such = asked_about is_such has.0 (path g (build has.0)) t (subst (Ends (build has.0) (path g (build has.0))) has.3 (path_ends g (build has.0))) small in
       let taken = path_is_taken (build has.0) answers only.0 such served.allowed only.1 in
       has_answer g source answers answer t served taken has

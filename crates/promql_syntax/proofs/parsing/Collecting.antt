@@ -42,7 +42,7 @@ joined_one : (d : grammar.Derivation) (o : Read grammar.Arguments) → (o then �
 joined_one d (Ok y) = refl
 joined_one d (Err e) = refl
 
-rest_length : (ds : grammar.Arguments) → length (yield_rest ds) ≡ rest_count ds + 1
+pub rest_length : (ds : grammar.Arguments) → length (yield_rest ds) ≡ rest_count ds + 1
 rest_length grammar.none = omega arith
 rest_length (grammar.more d ds) = omega (arith, length-append (yield d) (yield_rest ds), rest_length ds)
 

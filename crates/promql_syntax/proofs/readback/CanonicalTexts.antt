@@ -1,9 +1,9 @@
 -- The printed text of a text's tree has the tree's normal form.
-use Rattle.std.proofs.Common.{◌≡◌, ◌↔◌, ℕ, refl, sym, ◌∙◌, ap, subst, arith, List}
+use Rattle.std.proofs.Common.{◌≡◌, ◌↔◌, ℕ, ◌≤◌, refl, sym, ◌∙◌, ap, subst, arith, List}
 use Rattle.std.specs.Prelude.{Ok, Err, Result}
 use Rattle.promql_text.specs.Texts.{Text}
 use Rattle.promql_token.specs.declared.fault.LexFault.{LexFault}
-use Rattle.promql_grammar.specs.Grammar.{Derivation, yield}
+use Rattle.promql_grammar.specs.Grammar.{Derivation, height, yield}
 use Rattle.promql_grammar.specs.Symbols.{Symbol}
 use Rattle.promql_grammar.proofs.Unique.{one_derivation}
 use Rattle.promql_label.specs.Answers.{Answer}
@@ -15,6 +15,8 @@ use Rattle.promql_ast.proofs.normal_form.NormalForms.{text_alike}
 use Rattle.promql_syntax.specs.ParseAnswers.{Derives, HasTree, IsServed, PlainParseError, fault}
 use Rattle.promql_syntax.specs.PartBuilding.{on_error}
 use Rattle.promql_syntax.specs.Asking.{AreAnswersOf, Asked, under}
+use Rattle.promql_syntax.specs.declared.parser.TheConstants.{MAX_DEPTH}
+use Rattle.promql_syntax.proofs.building.Ending.{ends_under}
 use Rattle.promql_syntax.specs.Building.{build}
 use Rattle.promql_syntax.proofs.readback.Derive.{derive}
 use Rattle.promql_syntax.specs.BuildErrors.{BuildError}
@@ -49,15 +51,22 @@ built_ok : (r : Result Tree BuildError) (t : Tree) → Ok t ≡ on_error fault r
 built_ok (Ok u) t same = cc
 built_ok (Err e) t same = cc
 
+-- where there is a derivation, the answer is what it builds with these answers
+pub served_as_built : (g : Text → Answer) (source : Text) (answers : List Asked) (answer : Result Tree PlainParseError) → IsServed source answers answer → AreAnswersOf g answers
+    → (d : Derivation) → Derives source d → height d ≤ MAX_DEPTH → answer ≡ on_error fault (under g (build d))
+served_as_built g source answers answer s single d derives low =
+    let o = s.only d derives low in
+    o.2 ∙ ap (on_error fault) (ends_under g (build d) answers o.0 o.1 single)
+
 -- where the answer is a tree, the text has it
 pub answer_has : (g : Text → Answer) (source : Text) (answers : List Asked) (t : Tree) → IsServed source answers (Ok t) → AreAnswersOf g answers → HasTree g source t
 answer_has g source answers t s single =
     let b = s.built (Ok t) refl in
-    (b.0, b.1, b.2, built_ok (under g (build b.0)) t (s.single g single b.0 b.1 b.2))
+    (b.0, b.1, b.2, built_ok (under g (build b.0)) t (served_as_built g source answers (Ok t) s single b.0 b.1 b.2))
 
 -- where the text has a tree, the answer is it
 pub has_answer : (g : Text → Answer) (source : Text) (answers : List Asked) (answer : Result Tree PlainParseError) (t : Tree) → IsServed source answers answer → AreAnswersOf g answers → HasTree g source t → answer ≡ Ok t
-has_answer g source answers answer t s single h = s.single g single h.0 h.1 h.2 ∙ ap (on_error fault) h.3
+has_answer g source answers answer t s single h = served_as_built g source answers answer s single h.0 h.1 h.2 ∙ ap (on_error fault) h.3
 
 module _ (g : Text → Answer) where
   keeps_of : (source : Text) (t : Tree) → (h : HasTree g source t) → Keeps g h.0 t

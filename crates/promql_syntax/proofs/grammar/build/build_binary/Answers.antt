@@ -1,4 +1,4 @@
-use Rattle.std.proofs.Common.{◌≡◌, ◌++◌, subst, sym, Bool, ◌&&◌, refl, ◌∙◌, ap, arith, append_assoc, None, List, [], ◌∷◌, ℕ, Some}
+use Rattle.std.proofs.Common.{◌≡◌, ◌++◌, subst, sym, Bool, ◌&&◌, refl, ◌∙◌, ap, arith, append_assoc, None, List, [], ◌∷◌, ℕ}
 use Rattle.std.proofs.lemmas.List.Elements.{All-append}
 use Rattle.std.specs.Prelude.{is_ok}
 use Rattle.promql_ast.specs.Checked.{check_tree}

@@ -1,4 +1,4 @@
-use Rattle.std.proofs.Common.{ℕ, ◌+◌, Bool, ◌∙◌, ap, arith, [], ◌∷◌, Some, None}
+use Rattle.std.proofs.Common.{ℕ, ◌+◌, Bool, ◌∙◌, ap, arith, [], ◌∷◌}
 use Rattle.std.specs.Prelude.{Err}
 use Rattle.promql_ast.specs.View.{tree_of, trees_of}
 use Rattle.promql_grammar.specs.Grammar as grammar
