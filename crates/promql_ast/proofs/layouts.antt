@@ -7,4 +7,6 @@ pub mod Indents
 pub mod Layouts
 pub mod LayoutsBy
 pub mod Lists
+pub mod NodeDepths
+pub mod NodesLaidOut
 pub mod Pushes

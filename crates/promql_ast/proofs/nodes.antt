@@ -2,4 +2,6 @@
 pub mod Args
 pub mod ChangedLists
 pub mod ExpressionLists
+pub mod LastArguments
 pub mod NodeParts
+pub mod NodesPrinted

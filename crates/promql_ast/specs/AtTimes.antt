@@ -16,12 +16,13 @@ abbrev pub at_of_id : ℕ → Result AtModifier AtFault
 at_of_id id = if id == T_START then Ok Start else (if id == T_END then Ok End else Err (NotPreprocessor id))
 
 -- seconds since the epoch, to the nearest millisecond
-abbrev pub at_of_millis : Number → Option ℤ → Result AtModifier AtFault
-at_of_millis seconds millis = option_map_or (λ t. Ok (At t)) millis (Err (OutOfBounds seconds))
-
 abbrev pub at_of_number : Number → Result AtModifier AtFault
-at_of_number seconds = at_of_millis seconds (to_millis seconds)
+at_of_number seconds = option_map_or (λ t. Ok (At t)) (to_millis seconds) (Err (OutOfBounds seconds))
 
 -- an expression: the number of a number literal
 abbrev pub at_of_expr : Tree → Result AtModifier AtFault
 at_of_expr t = option_map_or at_of_number (scalar_value t) (Err NotANumber)
+
+-- the same, of the milliseconds. Private: nothing rests on believing it
+abbrev pub at_of_millis : Number → Option ℤ → Result AtModifier AtFault
+at_of_millis seconds millis = option_map_or (λ t. Ok (At t)) millis (Err (OutOfBounds seconds))

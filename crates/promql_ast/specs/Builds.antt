@@ -32,7 +32,15 @@ with_range (vector (selector name matchers None (Some at))) range = rejected (no
 with_range (vector (selector name matchers None None)) range = passes (matrix (selector name matchers None None) range Plain)
 with_range _ range = rejected (node RangeBase)
 
--- "Offset and @": each once, on a selector, a matrix selector or a subquery
+-- the times of a selector, a matrix selector or a subquery, and the tree with others
+abbrev pub timed : Tree → Option (Option Shift × Option Moment × (Option Shift → Option Moment → Tree))
+timed (vector (selector name matchers offset at)) = Some (offset, at, λ offset at. vector (selector name matchers offset at))
+timed (matrix (selector name matchers offset at) range mode) =
+    Some (offset, at, λ offset at. matrix (selector name matchers offset at) range mode)
+timed (subquery e offset at range step) = Some (offset, at, λ offset at. subquery e offset at range step)
+timed t = None
+
+-- "Offset and @": each once. By the law `times_are_given_once` they are what `timed` says
 abbrev pub at_given : Tree → Moment → Verdict
 at_given (vector (selector name matchers offset None)) at = passes (vector (selector name matchers offset (Some at)))
 at_given (matrix (selector name matchers offset None) range mode) at =
@@ -59,7 +67,7 @@ mode_given (matrix s range Plain) mode = passes (matrix s range mode)
 mode_given (matrix s range before) mode = rejected (node ModeTwice)
 mode_given _ mode = rejected (node ModeBase)
 
--- "Aggregations": one argument; a parameter comes before it
+-- "Aggregations": one argument; a parameter comes before it. The law `aggregations_have_their_arguments` says so
 abbrev pub aggregated_alone : ℕ → Option Clause → Trees → Verdict
 aggregated_alone op m no_trees = rejected (node (NoArguments op))
 aggregated_alone op m (first_tree e no_trees) = passes (aggregate op e absent m)

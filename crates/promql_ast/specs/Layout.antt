@@ -1,4 +1,5 @@
--- A tree laid out over lines (docs/reference/printing.md, "Nodes over several lines").
+-- A tree laid out over lines (docs/reference/printing.md, "Nodes over several lines"): by the law `nodes_are_laid_out` its
+-- layout and its lines are those of `NodeLines`.
 use Rattle.std.specs.Prelude.{ℕ, ◌+◌, ◌==◌, max, Bool, true, false, not, ◌&&◌, if◌then◌else◌, List, [], ◌∷◌, ◌++◌, Option, Some, None, codes}
 use Rattle.std.specs.Option.{option_map_or}
 use Rattle.promql_text.specs.Texts.{Text, joined_text, code}

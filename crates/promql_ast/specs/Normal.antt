@@ -1,5 +1,5 @@
 -- The normal form of a tree (docs/reference/printing.md, "Normal form").
-use Rattle.std.specs.Prelude.{Bool, false, [], ◌∷◌, Option, Some, None}
+use Rattle.std.specs.Prelude.{Bool, false, [], Option, Some, None}
 pub use Rattle.promql_label.specs.ReadMatchers.{normal_matchers}
 use Rattle.promql_kind.specs.Modifiers.{Clause, including, excluding, one_to_one, fills, Matching, matching, is_grouping}
 use Rattle.promql_ast.specs.Mapped.{mapped, maybe_mapped, all_mapped}
