@@ -2,7 +2,7 @@
 -- "In brackets").
 use Rattle.std.specs.Prelude.{◌≡◌, ◌⊎◌, ℕ, zero, suc, ◌<◌, Bool, true, false, not, ◌&&◌, ◌||◌, ◌==◌, List, [], ◌∷◌, ◌++◌, length, slice_index, codes}
 use Rattle.std.specs.Char.{is_ascii_digit}
-use Rattle.std.specs.List.{list_all, list_any}
+use Rattle.std.specs.List.{concat, list_all, list_any}
 use Rattle.promql_token.specs.declared.class.Class.{Class}
 use Rattle.promql_token.specs.declared.class.Class.TheVariants as class
 use Rattle.promql_token.specs.declared.ids.TheConstants.{T_ADD, T_AT, T_COLON, T_COMMA, T_DIV, T_DURATION, T_EQL, T_EQLC, T_EQL_REGEX, T_GTE, T_GTR, T_LEFT_BRACE, T_LEFT_BRACKET, T_LEFT_PAREN, T_LSS, T_LTE, T_MOD, T_MUL, T_NEQ, T_NEQ_REGEX, T_NUMBER, T_POW, T_RIGHT_BRACE, T_RIGHT_BRACKET, T_RIGHT_PAREN, T_STRING, T_SUB}
@@ -12,7 +12,6 @@ use Rattle.promql_token.specs.declared.state.Mode.TheVariants as mode
 use Rattle.promql_text.specs.Texts.{Text, code}
 use Rattle.promql_token.specs.Classes.{is_in, is_label}
 use Rattle.promql_token.specs.Vocabulary.{braces_id, is_exponent, is_part, is_sign, is_spelling, is_unit, is_word, next, parts_text, word_id}
-use Rattle.std.specs.List.{concat}
 
 -- ---- punctuators
 

@@ -2,7 +2,7 @@
 -- (docs/reference/tokens.md, "Faults").
 use Rattle.std.specs.Prelude.{◌≡◌, ℕ, zero, suc, ◌<◌, Bool, true, false, ◌&&◌, ◌||◌, ◌==◌, List, [], ◌∷◌, ◌++◌, length, slice_index, codes}
 use Rattle.std.specs.Char.{is_ascii_digit}
-use Rattle.std.specs.List.{list_all}
+use Rattle.std.specs.List.{concat, list_all}
 use Rattle.promql_token.specs.declared.class.Class.TheVariants as class
 use Rattle.promql_token.specs.declared.fault.LexFaultKind.{LexFaultKind}
 use Rattle.promql_token.specs.declared.fault.LexFaultKind.TheVariants.{UnclosedParen, AfterEqual, AfterBang, BangAtEnd, AfterDot, DotAtEnd, RightParen, RightBrace, RightBracket, Character, Numeral, Escape, EscapeAtEnd, OpenString, AfterBangInBraces, BraceInBraces, InBraces, EndInBraces, SecondColon, FirstColon, BracketInBrackets, InBrackets, EndInBrackets}
@@ -14,7 +14,6 @@ use Rattle.promql_token.specs.Begins.{IsBody, IsNumeral, has_escapes}
 use Rattle.promql_token.specs.Classes.{is_in, is_letter}
 use Rattle.promql_token.specs.Ids.{is_one_of}
 use Rattle.promql_token.specs.Vocabulary.{holds_strings, is_escape, is_quote, is_spelling, next}
-use Rattle.std.specs.List.{concat}
 
 -- v begins with this byte, after the text w
 abbrev pub Meets : Text → ℕ → Text → Text → Type 0

@@ -1,7 +1,7 @@
 -- Trivia, and the places of the tokens between them (docs/reference/tokens.md, "The token list of a text").
 use Rattle.std.specs.Prelude.{◌≡◌, ◌⊎◌, ℕ, ◌+◌, ◌-◌, ◌≤◌, true, false, not, ◌==◌, List, [], ◌∷◌, ◌++◌, length, take, drop}
 use Rattle.std.specs.Char.{is_ascii_whitespace}
-use Rattle.std.specs.List.{list_all}
+use Rattle.std.specs.List.{concat, list_all}
 use Rattle.std.specs.Str.{IsCharBoundary}
 use Rattle.promql_token.specs.declared.lexeme.Lexeme.{Lexeme}
 use Rattle.promql_token.specs.declared.state.Mode.{Mode}
@@ -9,7 +9,6 @@ use Rattle.promql_token.specs.declared.state.Mode.TheVariants as mode
 use Rattle.promql_text.specs.Texts.{Text, code}
 use Rattle.promql_token.specs.States.{mode_at}
 use Rattle.promql_token.specs.Vocabulary.{is_line_end, next}
-use Rattle.std.specs.List.{concat}
 
 -- ---- trivia
 

@@ -1,4 +1,4 @@
--- How a byte is to names and words. Private: nothing rests on believing it.
+-- How a byte is to names and words, and numbers in a row. Private: nothing rests on believing it.
 use Rattle.std.specs.Prelude.{ℕ, zero, suc, ◌+◌, Bool, if◌then◌else◌, ◌==◌, List, [], ◌∷◌}
 use Rattle.std.specs.Char.{is_ascii_digit}
 use Rattle.promql_text.specs.Texts.{code}

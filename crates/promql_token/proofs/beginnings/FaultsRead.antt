@@ -2,7 +2,7 @@
 use Rattle.std.proofs.Common.{◌≡◌, ℕ, zero, suc, ◌<◌, Bool, true, false, cond, [], ◌∷◌, ◌++◌, length, take, drop, Some, Ok, Err, refl, sym, ap, ◌∙◌, subst, arith, eqb-true}
 use Rattle.std.specs.Prelude.{◌==◌, ◌&&◌, ◌||◌, codes, slice_get}
 use Rattle.std.specs.Char.{is_ascii_digit}
-use Rattle.std.specs.List.{list_any}
+use Rattle.std.specs.List.{concat, list_any}
 use Rattle.std.proofs.lemmas.Grind.{common_steps}
 use Rattle.std.proofs.lemmas.List.{take-append-drop}
 use Rattle.promql_token.specs.declared.class.Class.TheVariants as class
@@ -21,7 +21,6 @@ use Rattle.promql_token.specs.Ids.{is_one_of}
 use Rattle.promql_token.specs.Vocabulary.{next}
 use Rattle.promql_token.specs.TokenScanning.{Scanned, begins_numeral, in_braces, in_brackets, is_quote, numeral, outside, scan_token, punctuator, string, word}
 use Rattle.promql_token.specs.Printed.{holds_strings}
-use Rattle.std.specs.List.{concat}
 use Rattle.promql_token.proofs.cursors.TestsAndCounts.{not_one, not_zero, or_false}
 use Rattle.promql_token.proofs.values.Numerals.{NumeralSays, numeral_says}
 use Rattle.promql_token.proofs.beginnings.ReadBeginnings.{digit_first, string_first}

@@ -2,7 +2,7 @@
 use Rattle.std.proofs.Common.{◌≡◌, ℕ, suc, ◌+◌, true, false, cond, List, [], ◌∷◌, ◌++◌, length, take, drop, refl, sym, ap, ◌∙◌, subst, inl, inr, ◌⊎◌, ⊎_elim, arith, append_assoc, length-append, zero-add}
 use Rattle.std.specs.Prelude.{◌==◌, not, ◌&&◌}
 use Rattle.std.specs.Char.{is_ascii_whitespace}
-use Rattle.std.specs.List.{list_all}
+use Rattle.std.specs.List.{concat, list_all}
 use Rattle.std.proofs.Math.Seq.{take-append_seam, drop-append_seam}
 use Rattle.std.proofs.lemmas.Grind.{common_steps}
 use Rattle.promql_token.specs.declared.class.Class.TheVariants as class
@@ -12,7 +12,6 @@ use Rattle.promql_text.specs.Texts.{Text}
 use Rattle.promql_token.specs.Trivia.{IsComment, AreBlank, IsTriviaIn}
 use Rattle.promql_token.specs.Vocabulary.{next}
 use Rattle.promql_token.specs.TokenScanning.{trivia_len, trivia_from, is_line_end}
-use Rattle.std.specs.List.{concat}
 use Rattle.promql_token.proofs.cursors.TestsAndCounts.{by_bool}
 use Rattle.promql_token.proofs.one_reading.Ends.{and_left, and_right}
 use Rattle.promql_token.proofs.printed.PrintedForms.{past_front}

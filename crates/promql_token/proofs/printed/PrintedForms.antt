@@ -2,7 +2,7 @@
 use Rattle.std.proofs.Common.{◌≡◌, ℕ, suc, ◌+◌, ◌-◌, ◌<◌, Bool, true, false, cond, List, [], ◌∷◌, ◌++◌, length, get_or, take, drop, Ok, Err, refl, sym, ap, ◌∙◌, subst, ⊎_elim, arith, append_assoc, length-append, add-zero, zero-add, eqb-true}
 use Rattle.std.specs.Prelude.{◌==◌, not, ◌&&◌, ◌||◌}
 use Rattle.std.specs.Char.{is_ascii_digit}
-use Rattle.std.specs.List.{list_all, prefix_len}
+use Rattle.std.specs.List.{concat, list_all, prefix_len}
 use Rattle.std.proofs.Math.Seq.{drop-append_seam, drop-length}
 use Rattle.std.proofs.lemmas.Grind.{common_steps}
 use Rattle.std.proofs.lemmas.List.{append-nil, drop-drop, get_or_past, get_or-append-add}
@@ -19,7 +19,6 @@ use Rattle.promql_token.specs.Laws.{parts, stops_numeral}
 use Rattle.promql_token.specs.Lexing.{pieces}
 use Rattle.promql_token.specs.TokenScanning.{Scanned, begins_numeral, is_hex, past_whole, past_point, past_sign, past_exponent, number_end, digits, units, is_quote, is_escape, string, string_from, numeral, outside, in_braces, in_brackets, scan_token, after}
 use Rattle.promql_token.specs.Printed.{holds_strings, is_spelling, quote_parts, JoinsString, holds_numerals, are_digits, decimal, JoinsNumber}
-use Rattle.std.specs.List.{concat}
 use Rattle.promql_token.proofs.cursors.TestsAndCounts.{same_number}
 use Rattle.promql_token.proofs.one_reading.Ends.{and_left, and_right, or_cases}
 use Rattle.promql_token.proofs.printed.Concatenation.{joins}

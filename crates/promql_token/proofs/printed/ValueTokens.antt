@@ -3,7 +3,7 @@ use Rattle.std.proofs.Common.{◌≡◌, ℕ, zero, suc, ◌-◌, ◌*◌, ◌^�
 use Rattle.std.specs.Prelude.{⊤, ◌/◌, ◌%◌, ◌==◌, ◌||◌, codes, replicate}
 use Rattle.std.specs.Char.{digit_value, is_ascii_digit}
 use Rattle.std.specs.Fmt.{decimal}
-use Rattle.std.specs.List.{list_all}
+use Rattle.std.specs.List.{concat, list_all}
 use Rattle.std.specs.Option.{option_map_or}
 use Rattle.std.specs.Str.Parse.{AllDigits, digits_value}
 use Rattle.std.proofs.lemmas.Bool.{cond_both, eqb-false, ne_eqb}
@@ -35,7 +35,6 @@ use Rattle.promql_token.specs.Lexing.{pieces}
 use Rattle.promql_token.specs.TokenScanning.{after, word_id}
 use Rattle.promql_token.specs.Printed as printed
 use Rattle.promql_token.specs.Printed.{are_digits, holds_numerals, is_part, is_spelling, parts_text, quote_parts}
-use Rattle.std.specs.List.{concat}
 use Rattle.promql_token.specs.PrintedValues.{JoinsNumberText, JoinsQuoted, JoinsTime, time_id}
 use Rattle.promql_token.proofs.printed.InLongerTexts.{stops}
 use Rattle.promql_token.proofs.cursors.TestsAndCounts.{and_both}

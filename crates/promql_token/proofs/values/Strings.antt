@@ -1,7 +1,7 @@
 -- What is read after a quote: a string by its spellings, or a fault.
 use Rattle.std.proofs.Common.{◌≡◌, ℕ, suc, ◌+◌, ◌<◌, Bool, true, false, cond, List, [], ◌∷◌, ◌++◌, length, get_or, take, drop, Ok, Err, refl, sym, ap, ◌∙◌, subst, inl, inr, ◌⊎◌, ⊎_elim, arith, append_assoc, length-append}
 use Rattle.std.specs.Prelude.{◌==◌, not, ◌&&◌, ◌||◌}
-use Rattle.std.specs.List.{list_all}
+use Rattle.std.specs.List.{concat, list_all}
 use Rattle.std.proofs.Math.Seq.{take-append_seam, drop-append_seam}
 use Rattle.std.proofs.lemmas.Bool.{cond_both}
 use Rattle.std.proofs.lemmas.Grind.{common_steps}
@@ -13,7 +13,6 @@ use Rattle.promql_token.specs.FaultPlaces.{IsEscaping}
 use Rattle.promql_token.specs.Vocabulary.{next}
 use Rattle.promql_token.specs.TokenScanning.{Scanned, is_escape, is_quote, string, string_from}
 use Rattle.promql_token.specs.Printed.{is_spelling}
-use Rattle.std.specs.List.{concat}
 use Rattle.promql_token.proofs.cursors.TestsAndCounts.{same_number, by_bool}
 use Rattle.promql_token.proofs.one_reading.Ends.{and_left, and_right, or_cases}
 use Rattle.promql_token.proofs.one_reading.Steps.{not_true}
