@@ -1,6 +1,5 @@
 pub mod Answers
 pub mod EngineAnswers
-pub mod LabelLaws
 pub mod LabelRows
 pub mod LabelSets
 pub mod Labels

@@ -2,14 +2,14 @@
 
 ghost use Rattle.regex.specs.Patterns.{default_config};
 ghost use Rattle.regex_syntax.specs.Grammar.{read};
-ghost use Rattle.std.specs.Prelude.{◌≡◌, ◌≢◌, ◌↔◌, ◌<◌, ◌≤◌, ◌++◌, ◌∷◌, ℕ, [], List, IsSomeAnd, IsTrue, Ok, Some, chars, codes, false, length, map, true};
+ghost use Rattle.std.specs.Prelude.{◌≡◌, ◌≢◌, ◌↔◌, ◌<◌, ◌≤◌, ◌++◌, ◌∷◌, ℕ, [], List, IsSomeAnd, IsTrue, Ok, Some, chars, codes, false, if◌then◌else◌, length, map, true};
 ghost use Rattle.std.specs.List.{list_any, position_or_len, AllPairs, Contains};
 ghost use Rattle.std.specs.Str.{bytes_eq};
 ghost use Rattle.std.specs.List.Sorted.{IsSortedByKey, IsStableByKey};
+ghost use Rattle.promql_text.specs.Quoting.{unquoted_text};
 ghost use Rattle.promql_text.specs.Texts.{Text};
 ghost use Rattle.promql_label.specs.Answers.{Allows, anchor, Answer, has_one_answer, is_read_pair, pattern_answer};
 ghost use Rattle.promql_label.specs.Labels.{common, is_among, is_number_word, label_text, labels_of};
-ghost use Rattle.promql_label.specs.LabelLaws.{label_of};
 ghost use Rattle.promql_label.specs.MatcherRows.{WorkedLists};
 ghost use Rattle.promql_label.specs.Operators.{IsMatcherOf};
 ghost use Rattle.promql_label.specs.PatternSize.{is_small, size, weight};
@@ -19,6 +19,7 @@ ghost use Rattle.promql_label.specs.ReadMatchers.{MeanGroups, operator_id, parts
 ghost use Rattle.promql_label.specs.Repeats.{backslashed, escaped_repeats, opens_count, OpensCount};
 ghost use Rattle.promql_label.specs.RepeatPlaces.{bytes_from};
 ghost use Rattle.promql_label.specs.SortedTexts.{sorted_texts, text_order};
+ghost use Rattle.promql_token.specs.Classes.{is_label};
 ghost use Rattle.promql_token.specs.Ids.{text_of};
 ghost use Rattle.promql_token.specs.Lexing.{pieces};
 ghost use Rattle.promql_token.specs.declared.state.Mode.TheVariants.{Braces};
@@ -67,12 +68,14 @@ pub fn joint_lists_have_common_labels()
         → IsTrue (list_any (is_among others) ls) ↔ (common ls others ≢ []) }
 {}
 
-/// A printed label means the label, and is no word for a number; the printed name of a matcher means
+/// A printed label means the label, as it is or unquoted, and is no word for a number; the printed name of a matcher means
 /// the name.
 pub fn printed_labels_read_back()
-    ensures labels { (l : Text) → label_of (label_text l) ≡ Some l }
+    ensures labels { (l : Text) → (if is_label (label_text l) then Some (label_text l)
+        else unquoted_text (label_text l)) ≡ Some l }
     ensures no_numbers { (l : Text) → is_number_word (label_text l) ≡ false }
-    ensures names { (name : Text) → label_of (name_text name) ≡ Some name }
+    ensures names { (name : Text) → (if is_label (name_text name) then Some (name_text name)
+        else unquoted_text (name_text name)) ≡ Some name }
 {}
 
 /// The matchers of a normal form are in byte order of their texts, and those that print alike keep their order; no other list of

@@ -1,12 +1,15 @@
 -- Printed labels and names of matchers mean the labels.
-use Rattle.std.proofs.Common.{◌≡◌, refl, ap, Bool, true, false, cond, not, ◌&&◌, Some}
+use Rattle.std.proofs.Common.{◌≡◌, refl, ap, Bool, true, false, cond, not, ◌&&◌, Option, Some}
 use Rattle.promql_text.specs.Quoting.{quoted_text, unquoted_text}
 use Rattle.promql_text.specs.Texts.{Text}
 use Rattle.promql_text.proofs.quoting.Quotes.{unquoted_text-quoted}
 use Rattle.promql_token.specs.Classes.{is_label}
 use Rattle.promql_label.specs.Labels.{is_number_word, label_text}
-use Rattle.promql_label.specs.LabelLaws.{label_of}
 use Rattle.promql_label.specs.PlainMatchers.{name_text}
+
+-- the label that a printed text means: a bare label is itself, and any other text is unquoted
+abbrev label_of : Text → Option Text
+label_of s = cond (is_label s) (Some s) (unquoted_text s)
 
 bare : (l : Text) → is_label l ≡ true → label_of l ≡ Some l
 bare l is = ap (λ b. cond b (Some l) (unquoted_text l)) is
