@@ -54,7 +54,7 @@ no_float_labels ls = no_float_list text (λ _. refl) ls
 no_float_group : (ms : List PlainMatcher) → has_float (part.group_json ms) ≡ false
 no_float_group ms = no_float_list part.matcher_json no_float_matcher ms
 
-no_float_groups : (gs : List (List PlainMatcher)) (ms : Members) → members_have_float ms ≡ false → members_have_float (part.with_groups gs ms) ≡ false
+no_float_groups : (gs : List (List PlainMatcher)) (ms : Members) → members_have_float ms ≡ false → members_have_float (part.with_groups (map part.group_json gs) ms) ≡ false
 no_float_groups [] ms h = h
 no_float_groups (g ∷ gs) ms h = no_float_put (codes "or_matchers") _ ms (no_float_list part.group_json no_float_group (g ∷ gs)) h
 

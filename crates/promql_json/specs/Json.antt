@@ -1,5 +1,5 @@
 -- The JSON form of a tree (docs/reference/json.md, "Nodes" and "What has no form").
-use Rattle.std.specs.Prelude.{◌^◌, ◌||◌, ℤ, pos, neg_ℤ, int_lt, int_le, List, [], ◌∷◌, false, not, if◌then◌else◌, Option, Some, None, option_and_then, Result, Ok, Err, codes}
+use Rattle.std.specs.Prelude.{◌^◌, ◌||◌, ℤ, pos, neg_ℤ, int_lt, int_le, List, [], ◌∷◌, false, map, not, if◌then◌else◌, Option, Some, None, option_and_then, Result, Ok, Err, codes}
 use Rattle.std.specs.Option.{option_map_or, option_or}
 use Rattle.serde_json.specs.Data.{Data, null, boolean, string as text, array, object, Items, no_items, item, Members, no_members, put}
 use Rattle.promql_text.specs.Texts.{Text}
@@ -23,7 +23,7 @@ shift_rows offset at =
 
 abbrev pub selector_members : Selector → Members
 selector_members (selector name (plain_matchers plain groups) offset at) =
-    with_groups groups (members ((codes "name", or_null text name) ∷ (codes "matchers", group_json plain) ∷ shift_rows offset at))
+    with_groups (map group_json groups) (members ((codes "name", or_null text name) ∷ (codes "matchers", group_json plain) ∷ shift_rows offset at))
 
 -- the object of a node with this type and these other members
 abbrev pub typed : Text × Members → Data

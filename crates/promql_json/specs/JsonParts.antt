@@ -47,13 +47,13 @@ abbrev pub group_json : List PlainMatcher → Data
 group_json ms = list (map matcher_json ms)
 
 -- `or_matchers` only where there are groups
-abbrev pub with_groups : List (List PlainMatcher) → Members → Members
+abbrev pub with_groups : List Data → Members → Members
 with_groups [] ms = ms
-with_groups (g ∷ gs) ms = put (codes "or_matchers") (list (map group_json (g ∷ gs))) ms
+with_groups (g ∷ gs) ms = put (codes "or_matchers") (list (g ∷ gs)) ms
 
 -- a list of matchers by itself
 abbrev pub matchers_json : PlainMatchers → Data
-matchers_json (plain_matchers plain groups) = object (with_groups groups (members ((codes "matchers", group_json plain) ∷ [])))
+matchers_json (plain_matchers plain groups) = object (with_groups (map group_json groups) (members ((codes "matchers", group_json plain) ∷ [])))
 
 -- ---- "Modifiers"
 

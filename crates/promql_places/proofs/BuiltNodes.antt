@@ -19,7 +19,8 @@ use Rattle.promql_syntax.specs.Building.{build, build_all}
 use Rattle.promql_syntax.specs.FaultTokens.{Subexpression, rest_count}
 use Rattle.promql_syntax.proofs.readback.CheckedAgain.{arguments}
 use Rattle.promql_places.proofs.Pairs.{InOrder}
-use Rattle.promql_places.specs.NodePlaces.{BuildEach, IsNested, LiesWithin, argument_nodes, has_node, is_number, nodes, nodes_below, tree_nodes}
+use Rattle.promql_places.specs.NodePlaces.{BuildEach, argument_nodes, has_node, is_number, nodes, nodes_below, tree_nodes}
+use Rattle.promql_places.proofs.Lying.{IsNested, LiesWithin}
 use Rattle.promql_places.specs.PlacedFormSteps.{nodes_within}
 use Rattle.promql_places.proofs.BuiltTrees.{Alike, Gives, MinusOf, PostfixOf, Sort, UnaryOf, more_arguments, no_arguments, others, queries, shape, sort_of}
 use Rattle.promql_places.proofs.SignedTrees.{is_number_tree, number_is}

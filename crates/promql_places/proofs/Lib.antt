@@ -1,6 +1,7 @@
 pub mod BuiltNodes
 pub mod BuiltTrees
 pub mod CursorSteps
+pub mod Lying
 pub mod LyingParts
 pub mod PassedTrees
 pub mod PlaceSteps

@@ -9,9 +9,10 @@ use Rattle.promql_grammar.specs.GrammarParts as part
 use Rattle.promql_grammar.specs.GrammarParts.{yield_after, yield_before, yield_braces, yield_fills, yield_group, yield_grouping, yield_item, yield_items, yield_labels, yield_matching, yield_modifier, yield_names, yield_postfix}
 use Rattle.promql_grammar.specs.PartTokens.{yield_flag, yield_any_braces}
 use Rattle.promql_grammar.specs.Symbols.{punct, word}
-use Rattle.promql_places.specs.NodeParts.{Follows, PartTokens, clause_parts, group_parts, item_parts, label_parts, matcher_parts, matching_parts, parts}
+use Rattle.promql_places.specs.NodeParts.{PartTokens, clause_parts, group_parts, item_parts, label_parts, matcher_parts, matching_parts, parts}
 use Rattle.promql_places.specs.Pieces.{piece, postfix_kind}
 use Rattle.promql_places.specs.NodePlaces.{LieWithin, has_node}
+use Rattle.promql_places.proofs.Lying.{Follows}
 use Rattle.promql_places.proofs.Pairs.{InOrder}
 use Rattle.promql_places.specs.declared.parts.PartKind.{PartKind}
 use Rattle.promql_places.specs.declared.parts.PartKind.TheVariants as sort

@@ -15,7 +15,8 @@ use Rattle.promql_syntax.specs.Building.{build}
 use Rattle.promql_syntax.specs.ParseAnswers.{Derives, IsAnswerTo, memory}
 use Rattle.promql_places.specs.CursorTokens.{kinds_left, lexeme_kind}
 use Rattle.promql_places.specs.NodeParts.{parts_of}
-use Rattle.promql_places.specs.NodePlaces.{AreOfNodes, LiesWithin, nodes, place_of}
+use Rattle.promql_places.specs.NodePlaces.{AreOfNodes, nodes, place_of}
+use Rattle.promql_places.proofs.Lying.{LiesWithin}
 use Rattle.promql_places.specs.Passing.{IsPlacing, Passed, Passes, lists_of, parts_in, pass, place_in}
 use Rattle.promql_places.specs.Skipping.{kind_of, kinds}
 use Rattle.promql_places.specs.declared.placing.Placing.{Placing}

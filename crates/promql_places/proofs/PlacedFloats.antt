@@ -14,13 +14,13 @@ use Rattle.promql_ast.specs.Selectors.{selector}
 use Rattle.promql_ast.specs.Tree.{Tree, aggregate, unary, binary, paren, subquery, number, string, vector, matrix, call, extension, MaybeTree, absent, present, Trees, no_trees, first_tree}
 use Rattle.promql_json.specs.Json.{first_fault, json, json_value}
 use Rattle.promql_json.specs.FormNames.{node_members, type_name, unless}
-use Rattle.promql_json.specs.JsonParts.{list}
+use Rattle.promql_json.specs.JsonParts.{list, with_groups}
 use Rattle.promql_json.specs.JsonFaults.{args_fault, json_fault, param_fault}
 use Rattle.promql_json.specs.declared.error.JsonError.{JsonError}
 use Rattle.promql_json.proofs.FaultOrder.{first_met}
 use Rattle.promql_json.proofs.NoFloat.{no_float_of_json}
 use Rattle.promql_span.specs.declared.span.Span.{Span}
-use Rattle.promql_places.specs.PlacedForms.{NodePlace, matcher_places, placed_args, placed_groups, placed_matcher, placed_matchers, placed_node, placed_param, with_placed, with_placed_groups, with_placed_matchers}
+use Rattle.promql_places.specs.PlacedForms.{NodePlace, matcher_places, placed_args, placed_groups, placed_matcher, placed_matchers, placed_node, placed_param, with_placed, with_placed_matchers}
 use Rattle.promql_places.specs.PlacedFormSteps.{node_count, param_count, placed_value}
 
 one_of : (o : Ordering) (a b c : Members) → members_have_float a ≡ false → members_have_float b ≡ false → members_have_float c ≡ false → members_have_float (match_ordering o a b c) ≡ false
@@ -47,7 +47,7 @@ none_in_groups : (gs : List (List PlainMatcher)) (ps : List Span) → items_have
 none_in_groups [] ps = refl
 none_in_groups (g ∷ gs) ps = or_from _ _ (none_in_matchers g ps) (none_in_groups gs (drop (length g) ps))
 
-with_groups_none : (gs : List (List PlainMatcher)) (ps : List Span) (ms : Members) → members_have_float ms ≡ false → members_have_float (with_placed_groups gs ps ms) ≡ false
+with_groups_none : (gs : List (List PlainMatcher)) (ps : List Span) (ms : Members) → members_have_float ms ≡ false → members_have_float (with_groups (placed_groups gs ps) ms) ≡ false
 with_groups_none [] ps ms h = h
 with_groups_none (g ∷ gs) ps ms h = none_put (codes "or_matchers") _ ms (none_in_groups (g ∷ gs) ps) h
 

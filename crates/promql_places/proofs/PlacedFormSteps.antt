@@ -19,10 +19,10 @@ use Rattle.promql_json.specs.FormNames.{node_members, type_name, unless}
 use Rattle.promql_json.specs.JsonFaults.{args_fault, json_fault}
 use Rattle.promql_json.specs.declared.error.JsonError.{JsonError}
 use Rattle.promql_json.proofs.FaultOrder.{first_met}
-use Rattle.promql_json.specs.JsonParts.{list}
+use Rattle.promql_json.specs.JsonParts.{list, with_groups}
 use Rattle.promql_walk.specs.PlainMembers.{typed_members}
 use Rattle.promql_span.specs.declared.span.Span.{Span}
-use Rattle.promql_places.specs.PlacedForms.{NodePlace, placed_args, placed_groups, placed_matcher, placed_matchers, with_placed, with_placed_groups}
+use Rattle.promql_places.specs.PlacedForms.{NodePlace, placed_args, placed_groups, placed_matcher, placed_matchers, with_placed}
 use Rattle.promql_places.specs.PlacedFormSteps.{args_count, inner_count, inner_fault, node_count, nodes_within, param_count, placed_value}
 
 -- the members of nodes are put in any case
@@ -118,7 +118,7 @@ pushed vs v d ds all is before =
     ap (λ l. l ++ ds) (map-append view vs (v ∷ [])) ∙ append_assoc (map view vs) (view v ∷ []) ds ∙ ap (λ e. map view vs ++ e ∷ ds) is ∙ before
 
 pub some_groups : (gs : List (Vec Matcher Global)) (ps : List Span) (ms : Members) → 0 < length gs →
-    put (codes "or_matchers") (list (placed_groups (map (λ g. map plain_matcher_of g.items) gs) ps)) ms ≡ with_placed_groups (map (λ g. map plain_matcher_of g.items) gs) ps ms
+    put (codes "or_matchers") (list (placed_groups (map (λ g. map plain_matcher_of g.items) gs) ps)) ms ≡ with_groups (placed_groups (map (λ g. map plain_matcher_of g.items) gs) ps) ms
 some_groups [] ps ms h = absurd (omega arith)
 some_groups (g ∷ gs) ps ms h = refl
 

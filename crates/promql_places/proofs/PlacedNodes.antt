@@ -23,7 +23,8 @@ use Rattle.promql_span.specs.declared.span.Span.{Span}
 use Rattle.promql_places.specs.CursorTokens.{first_start, last_end, lexeme_kind, span_in}
 use Rattle.promql_places.specs.declared.parts.Part.{Part}
 use Rattle.promql_places.specs.NodeParts.{PartTokens, parts, parts_of}
-use Rattle.promql_places.specs.NodePlaces.{LiesWithin, place_of, tokens_at}
+use Rattle.promql_places.specs.NodePlaces.{place_of, tokens_at}
+use Rattle.promql_places.proofs.Lying.{LiesWithin}
 use Rattle.promql_places.specs.PartSteps.{part_in}
 use Rattle.promql_places.specs.Passing.{parts_in, place_in}
 use Rattle.promql_places.specs.Skipping.{kind_of, kinds}

@@ -1,6 +1,6 @@
 -- Where the parts of nodes are in a text (docs/reference/walks.md, "Parts of nodes").
 use Rattle.std.specs.Prelude.{◌⊎◌, ℕ, ◌+◌, ◌≤◌, if◌then◌else◌, List, [], ◌∷◌, ◌++◌, length, map, Some, None, true, false}
-use Rattle.std.specs.Option.{option_map_or}
+use Rattle.std.specs.Option.{option_and_then, option_map_or}
 use Rattle.promql_text.specs.Texts.{Text}
 use Rattle.promql_grammar.specs.Grammar as grammar
 use Rattle.promql_grammar.specs.Grammar.{Derivation, yield, yield_arguments}
@@ -26,28 +26,22 @@ label_parts p k (next w text ls) = (p, 1, 1 + (length (yield_names ls) + k)) ∷
 
 -- the clause of an aggregation, which n tokens come after where it is before the arguments
 abbrev pub clause_parts : ℕ → ℕ → Clause → List PartTokens
-clause_parts n k (Some (true, (by, text, ls))) = label_parts kind.Label n ls
-clause_parts n k (Some (false, (by, text, ls))) = label_parts kind.Label k ls
-clause_parts n k c = []
+clause_parts n k c = option_map_or (λ clause. label_parts kind.Label (if clause.0 then n else k) clause.1.2) c []
 
 -- the modifier of an operator
 abbrev pub group_parts : ℕ → Group → List PartTokens
-group_parts k (Some (w, text, Some ls)) = label_parts kind.GroupLabel k ls
-group_parts k g = []
+group_parts k g = option_map_or (label_parts kind.GroupLabel k) (option_and_then (λ group. group.2) g) []
 
 abbrev pub matching_parts : ℕ → Matching → List PartTokens
-matching_parts k None = []
-matching_parts k (Some (w, text, ls, g)) = label_parts kind.Label (length (yield_group g) + k) ls ++ group_parts k g
+matching_parts k m = option_map_or (λ c. label_parts kind.Label (length (yield_group c.3) + k) c.2 ++ group_parts k c.3) m []
 
 -- matchers in braces
 abbrev pub item_parts : ℕ → Items → List PartTokens
-item_parts k (last_item i false) = (kind.Matcher, length (yield_item i), 1 + k) ∷ []
-item_parts k (last_item i true) = (kind.Matcher, length (yield_item i), 2 + k) ∷ []
+item_parts k (last_item i comma) = (kind.Matcher, length (yield_item i), (if comma then 2 else 1) + k) ∷ []
 item_parts k (next_item i s is) = (kind.Matcher, length (yield_item i), 1 + (length (yield_items is) + k)) ∷ item_parts k is
 
 abbrev pub matcher_parts : ℕ → Braces → List PartTokens
-matcher_parts k None = []
-matcher_parts k (Some is) = item_parts k is
+matcher_parts k b = option_map_or (item_parts k) b []
 
 abbrev pub shift_kind : Postfix → PartKind
 shift_kind (offset text s t) = kind.Offset
@@ -79,9 +73,3 @@ parts k d = []
 -- from the first of its tokens through the last
 abbrev pub parts_of : Text → Subexpression → List Part
 parts_of s sub = map (λ p. record { kind = p.0; span = span_over s (tokens_at s p.1 p.2) }) (parts sub.0 sub.1)
-
--- ---- laws
-
--- the second of two parts begins after the first, or has its tokens and ends after it or with it
-abbrev pub Follows : PartTokens → PartTokens → Type 0
-Follows p q = (q.1 + q.2 ≤ p.2) ⊎ ((q.2 ≤ p.2) × (p.1 + p.2 ≤ q.1 + q.2))

@@ -83,12 +83,3 @@ AreOfNodes f s t xs = (d : Derivation) × Derives s d × BuildEach (nodes 0 d) (
 -- tokens, which lie within these: k come after the last, and n are left at the first
 abbrev pub LieWithin : ℕ → ℕ → ℕ → ℕ → Type 0
 LieWithin k n count after = (0 < count) × (k ≤ after) × (count + after ≤ n)
-
--- an expression has such tokens
-abbrev pub LiesWithin : ℕ → ℕ → Subexpression → Type 0
-LiesWithin k n sub = LieWithin k n (length (yield sub.1)) sub.0
-
--- the second of two expressions lies within the first, or begins after it
-abbrev pub IsNested : Subexpression → Subexpression → Type 0
-IsNested a b =
-    LiesWithin a.0 (length (yield a.1) + a.0) b ⊎ (length (yield b.1) + b.0 ≤ a.0)

@@ -8,7 +8,7 @@ use Rattle.promql_ast.specs.Fold.{maybe_within}
 use Rattle.promql_ast.specs.Selectors.{selector}
 use Rattle.promql_ast.specs.Tree.{Tree, aggregate, unary, binary, paren, subquery, vector, matrix, call, MaybeTree, absent, present, Trees, no_trees, first_tree}
 use Rattle.promql_json.specs.Json.{json_value, node_parts}
-use Rattle.promql_json.specs.JsonParts.{list, matcher_json}
+use Rattle.promql_json.specs.JsonParts.{list, matcher_json, with_groups}
 use Rattle.promql_span.specs.declared.span.Span.{Span}
 use Rattle.promql_places.specs.NodeParts.{parts_of}
 use Rattle.promql_places.specs.NodePlaces.{AreOfNodes, place_of, tree_nodes}
@@ -41,13 +41,9 @@ abbrev pub placed_groups : List (List PlainMatcher) → List Span → List Data
 placed_groups [] ps = []
 placed_groups (g ∷ gs) ps = list (placed_matchers g ps) ∷ placed_groups gs (drop (length g) ps)
 
-abbrev pub with_placed_groups : List (List PlainMatcher) → List Span → Members → Members
-with_placed_groups [] ps ms = ms
-with_placed_groups (g ∷ gs) ps ms = put (codes "or_matchers") (list (placed_groups (g ∷ gs) ps)) ms
-
 abbrev pub with_placed_matchers : PlainMatchers → List Span → Members → Members
 with_placed_matchers (plain_matchers plain groups) ps ms =
-    with_placed_groups groups (drop (length plain) ps) (put (codes "matchers") (list (placed_matchers plain ps)) ms)
+    with_groups (placed_groups groups (drop (length plain) ps)) (put (codes "matchers") (list (placed_matchers plain ps)) ms)
 
 -- ---- nodes
 

@@ -3,7 +3,7 @@
 ghost use Rattle.std.specs.Prelude.{◌≡◌, Option, IfOk, OnOk, drop, length, map, slice_get};
 ghost use Rattle.serde_json.specs.View.{members_view, view};
 ghost use Rattle.promql_label.specs.MatcherViews.{plain_matcher_of, plain_matchers_of};
-ghost use Rattle.promql_json.specs.JsonParts.{list};
+ghost use Rattle.promql_json.specs.JsonParts.{list, with_groups};
 ghost use Rattle.promql_places.specs.PlacedForms as spec;
 
 use crate::parts::{Part, PartKind};
@@ -102,8 +102,8 @@ fn put_groups(
     places: &mut PlacesLeft<'_>,
 ) -> Result<(), AllocError>
     ensures { OnOk result (members_view members.new.entries
-        ≡ spec.with_placed_groups (map (λ g. map plain_matcher_of g.items) groups.now)
-        places.old.rest.now (members_view members.old.entries)) }
+        ≡ with_groups (spec.placed_groups (map (λ g. map plain_matcher_of g.items) groups.now)
+        places.old.rest.now) (members_view members.old.entries)) }
 {
     if !groups.is_empty() {
         put(

@@ -127,7 +127,7 @@ pub(crate) fn put_groups(
     groups: &[Vec<Matcher>],
 ) -> Result<(), AllocError>
     ensures { OnOk result (members_view members.new.entries
-        ≡ spec.with_groups (map (λ g. map plain_matcher_of g.items) groups.now)
+        ≡ spec.with_groups (map spec.group_json (map (λ g. map plain_matcher_of g.items) groups.now))
         (members_view members.old.entries)) }
 {
     if !groups.is_empty() {

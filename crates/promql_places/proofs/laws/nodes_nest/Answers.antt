@@ -1,4 +1,5 @@
-use Rattle.promql_places.specs.NodePlaces.{IsNested, nodes}
+use Rattle.promql_places.specs.NodePlaces.{nodes}
+use Rattle.promql_places.proofs.Lying.{IsNested}
 use Rattle.promql_places.proofs.BuiltNodes.{nodes_nested}
 use Rattle.promql_places.proofs.Pairs.{pairs_of}
 use Rattle.promql_places.proofs.laws.nodes_nest.Goals as goal

@@ -1,4 +1,5 @@
-use Rattle.promql_places.specs.NodeParts.{Follows, parts}
+use Rattle.promql_places.specs.NodeParts.{parts}
+use Rattle.promql_places.proofs.Lying.{Follows}
 use Rattle.promql_places.proofs.LyingParts.{parts_fit}
 use Rattle.promql_places.proofs.Pairs.{pairs_of}
 use Rattle.promql_places.proofs.laws.parts_are_ordered.Goals as goal

@@ -7,7 +7,7 @@ use Rattle.promql_json.specs.JsonParts as spec
 use Rattle.promql_walk.proofs.json_parts.put_groups.Goals as goal
 
 some_groups : (gs : List (Vec Matcher Global)) (ms : Members) → 0 < length gs →
-    put (codes "or_matchers") (spec.list (map spec.group_json (map (λ g. map plain_matcher_of g.items) gs))) ms ≡ spec.with_groups (map (λ g. map plain_matcher_of g.items) gs) ms
+    put (codes "or_matchers") (spec.list (map spec.group_json (map (λ g. map plain_matcher_of g.items) gs))) ms ≡ spec.with_groups (map spec.group_json (map (λ g. map plain_matcher_of g.items) gs)) ms
 some_groups [] ms h = absurd (omega arith)
 some_groups (g ∷ gs) ms h = refl
 
