@@ -1,4 +1,5 @@
 -- A matcher in every selector, a file a topic.
+pub mod BareCalls
 pub mod EnforcedChecks
 pub mod EnforcedLists
 pub mod EnforcedMatchers

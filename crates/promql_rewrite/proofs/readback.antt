@@ -11,4 +11,5 @@ pub mod PrintableByNodes
 pub mod PrintableParts
 pub mod PrintablePlaces
 pub mod PrintableTexts
+pub mod PrintedOffsets
 pub mod TreeRows

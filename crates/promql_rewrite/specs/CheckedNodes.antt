@@ -1,4 +1,5 @@
--- Nodes that the checks leave as they are (docs/reference/tree.md, "Well typed trees").
+-- Nodes that the checks leave as they are (docs/reference/tree.md, "Well typed trees"). Private: nothing rests on
+-- believing it.
 use Rattle.std.specs.Prelude.{◌≡◌}
 use Rattle.promql_ast.specs.Checked.{check_tree}
 use Rattle.promql_ast.specs.Faults.{passes}

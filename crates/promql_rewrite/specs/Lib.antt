@@ -21,6 +21,7 @@ pub mod PrintableConditions
 pub mod PrintableNodes
 pub mod PrintableTrees
 pub mod Reasons
+pub mod RenamedParts
 pub mod Renaming
 pub mod Renamings
 pub mod SecondMatchers

@@ -1,4 +1,5 @@
--- A metric or a label by another name (docs/guide/rewriting.md, "Renaming").
+-- A metric or a label by another name (docs/guide/rewriting.md, "Renaming"): by the law `renamings_change_parts` a renamed
+-- tree has the changes of `RenamedParts`.
 use Rattle.std.specs.Prelude.{Bool, false, not, ◌&&◌, if◌then◌else◌, List, [], ◌∷◌, Option, Result, Ok, codes, map, option_map}
 use Rattle.std.specs.List.{list_any}
 use Rattle.std.specs.Str.{bytes_eq}

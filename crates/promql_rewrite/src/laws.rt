@@ -1,29 +1,39 @@
 //! Laws: the contracts of functions that do nothing.
 
-ghost use Rattle.std.specs.Prelude.{◌≡◌, ◌≢◌, ◌↔◌, ◌&&◌, ◌*◌, ◌<◌, ◌≤◌, [], false, ℕ, List, codes, map, true};
+ghost use Rattle.std.specs.Prelude.{◌≡◌, ◌≢◌, ◌↔◌, ◌⊎◌, ◌&&◌, ◌*◌, ◌<◌, ◌≤◌, [], ◌∷◌, false, ℕ, List, Ok, Option, Some, codes, map, option_map, true};
 ghost use Rattle.std.specs.List.{AllByRecursion};
 ghost use Rattle.promql_text.specs.Texts.{Text};
 ghost use Rattle.promql_label.specs.Answers.{Answer};
 ghost use Rattle.promql_label.specs.PlainMatchers.{PlainMatcher, name_of};
+ghost use Rattle.promql_grammar.specs.SourceTokens.{Token, tokens};
+ghost use Rattle.promql_grammar.specs.Symbols.{may_be_name, token_kind};
+ghost use Rattle.promql_kind.specs.Functions.{Signature};
+ghost use Rattle.promql_ast.specs.Arguments.{count};
+ghost use Rattle.promql_ast.specs.Checked.{check_tree};
+ghost use Rattle.promql_ast.specs.Faults.{passes};
 ghost use Rattle.promql_ast.specs.Height.{height};
 ghost use Rattle.promql_ast.specs.Layout.{layout_of};
+ghost use Rattle.promql_ast.specs.Mapped.{mapped};
 ghost use Rattle.promql_ast.specs.Normal.{normal};
 ghost use Rattle.promql_ast.specs.Selectors.{Selector};
+ghost use Rattle.promql_ast.specs.Shifts.{Shift, ahead, back};
 ghost use Rattle.promql_ast.specs.Text.{text};
-ghost use Rattle.promql_ast.specs.Tree.{Tree};
+ghost use Rattle.promql_ast.specs.Tree.{Tree, Trees, call, matrix, vector};
 ghost use Rattle.promql_ast.specs.Typed.{Typed, TypedSelector};
 ghost use Rattle.promql_ast.specs.Types.{type_of};
+ghost use Rattle.promql_ast.specs.declared.range_mode.RangeMode.{RangeMode};
 ghost use Rattle.promql_syntax.specs.ParseAnswers.{HasTree};
 ghost use Rattle.promql_syntax.specs.declared.parser.TheConstants.{MAX_DEPTH};
 ghost use Rattle.promql_rewrite.specs.AddedParens.{AddsParens};
 ghost use Rattle.promql_rewrite.specs.Answered.{IsAnswered};
-ghost use Rattle.promql_rewrite.specs.CheckedNodes.{PassesUnchanged};
 ghost use Rattle.promql_rewrite.specs.Collecting.{IsSetOf, from_nodes, own_functions, own_labels, own_metrics};
-ghost use Rattle.promql_rewrite.specs.Enforcing.{enforced, enforced_selector};
+ghost use Rattle.promql_rewrite.specs.Enforcing.{enforced, enforced_selector, has_bare_info, is_info};
 ghost use Rattle.promql_rewrite.specs.Everywhere.{Everywhere};
 ghost use Rattle.promql_rewrite.specs.Mapping.{KindedSelector, outline, selectors_of};
 ghost use Rattle.promql_rewrite.specs.Parenthesizing.{parenthesized};
+ghost use Rattle.promql_rewrite.specs.PrintableConditions.{PrintableOffset, PrintableTime};
 ghost use Rattle.promql_rewrite.specs.PrintableTrees.{HasParts, IsPlaced, IsPrintable, IsPrintableAlone, PatternsAnswered, printed_height};
+ghost use Rattle.promql_rewrite.specs.RenamedParts.{clause_with, label_with, matching_with, metric_with, selector_with};
 ghost use Rattle.promql_rewrite.specs.Renaming.{Renaming, clashes, is_name, of_label, of_metric, renamed, renamed_selector, replaced};
 ghost use Rattle.promql_rewrite.specs.Selecting.{Series, allows, selects};
 
@@ -44,10 +54,18 @@ pub fn enforced_trees_are_typed()
 /// A tree is well typed exactly if each of its nodes passes its checks, and is left as it is by them. Of a matrix selector that
 /// is asked of its selector.
 pub fn well_typed_trees_pass_their_checks()
-    ensures { (t : Tree) → Typed t ↔ Everywhere PassesUnchanged t }
+    ensures { (t : Tree) → Typed t ↔ Everywhere (λ n. (check_tree n ≡ passes n)
+        × ((s : Selector) (range : ℕ) (mode : RangeMode) → n ≡ matrix s range mode
+        → check_tree (vector s) ≡ passes (vector s))) t }
 {
     promql_ast::laws::checked_trees_are_typed();
 }
+
+/// A tree has no bare call of `info` exactly if each of its calls of `info` has two arguments at least.
+pub fn calls_of_info()
+    ensures { (t : Tree) → (has_bare_info t ≡ false) ↔ Everywhere (λ n. (f : Signature) (args : Trees)
+        → n ≡ call f args → is_info f ≡ true → 2 ≤ count args) t }
+{}
 
 /// A matcher that is enforced twice is there once.
 pub fn enforced_once()
@@ -91,6 +109,32 @@ pub fn renamed_selectors_select()
     ensures { (from to : Text) (s : Selector) (series : Series) → from ≢ codes "__name__"
         → selects (renamed_selector (of_label from to) s) series
         ≡ selects s (λ l. series (replaced from to l)) }
+{}
+
+/// A renamed tree is the tree with the new name for the old one in its parts. A metric is named before braces and by matchers,
+/// a label by matchers and in the lists of aggregations and operators.
+pub fn renamings_change_parts()
+    ensures metrics { (from to : Text) (t : Tree) → renamed (of_metric from to) t
+        ≡ mapped (selector_with (option_map (replaced from to)) (metric_with (replaced from to))) (λ m. m) (λ m. m) t }
+    ensures labels { (from to : Text) (t : Tree) → renamed (of_label from to) t
+        ≡ mapped (selector_with (λ n. n) (label_with (replaced from to)))
+        (option_map (clause_with (replaced from to))) (option_map (matching_with (replaced from to))) t }
+    ensures metric_selectors { (from to : Text) (s : Selector) → renamed_selector (of_metric from to) s
+        ≡ selector_with (option_map (replaced from to)) (metric_with (replaced from to)) s }
+    ensures label_selectors { (from to : Text) (s : Selector) → renamed_selector (of_label from to) s
+        ≡ selector_with (λ n. n) (label_with (replaced from to)) s }
+{}
+
+/// A text may be the name of a metric exactly if it is one token that the grammar takes before braces.
+pub fn names_of_metrics()
+    ensures { (text : Text) → (is_name text ≡ true) ↔ ((t : Token) × (tokens text ≡ Ok (t ∷ [])) × (t.1 ≡ text)
+        × (may_be_name (token_kind t.0) ≡ true)) }
+{}
+
+/// An offset is printable exactly if its length, in either direction, is a printable time.
+pub fn offsets_by_length()
+    ensures { (o : Option Shift) → PrintableOffset o
+        ↔ ((n : ℕ) → (o ≡ Some (back n)) ⊎ (o ≡ Some (ahead n)) → PrintableTime n) }
 {}
 
 /// A tree keeps its type and its height where a metric or a label is renamed. It stays well typed where a metric gets a name

@@ -1,12 +1,13 @@
 //! A metric or a label by another name: docs/guide/rewriting.md, "Renaming".
 
-ghost use Rattle.std.specs.Prelude.{◌≡◌, ◌↔◌, ◌&&◌, ◌||◌, IfOk, IsErrOf, OnOk, false, map, not, option_map, string_bytes, true};
+ghost use Rattle.std.specs.Prelude.{◌≡◌, ◌↔◌, ◌&&◌, ◌||◌, IfOk, IsErrOf, OnOk, codes, false, map, not, option_map, string_bytes, true};
+ghost use Rattle.std.specs.Str.{bytes_eq};
 ghost use Rattle.promql_token.specs.Cursor.{ends_in_fault, tokens_left};
 ghost use Rattle.promql_label.specs.Labels.{labels_of};
 ghost use Rattle.promql_label.specs.MatcherViews.{plain_matcher_of, plain_matchers_of};
 ghost use Rattle.promql_kind.specs.ModifierViews.{cardinality_of, clause_of, matching_of};
 ghost use Rattle.promql_ast.specs.View.{selector_of, tree_of};
-ghost use Rattle.promql_rewrite.specs.Renaming.{clashes, is_metric_label, is_name, of_label, of_metric, renamed, renamed_cardinality, renamed_clause, renamed_labels, renamed_matcher, renamed_matchers, renamed_matching, renamed_name, renamed_selector, replaced};
+ghost use Rattle.promql_rewrite.specs.Renaming.{clashes, is_name, of_label, of_metric, renamed, renamed_cardinality, renamed_clause, renamed_labels, renamed_matcher, renamed_matchers, renamed_matching, renamed_name, renamed_selector, replaced};
 ghost use Rattle.promql_rewrite.specs.Renamings.{is_name_token, is_nothing, renaming_of};
 
 use crate::changing::{PartChange, change_parts};
@@ -101,9 +102,9 @@ pub fn rename_label(
     ensures ok { IfOk result (λ e.
         tree_of e ≡ renamed (of_label from.now to.now) (tree_of expr)) }
     ensures name { IsErrOf result RenameLabelError.MetricName
-        ↔ (is_metric_label from.now || is_metric_label to.now ≡ true) }
+        ↔ (bytes_eq from.now (codes "__name__") || bytes_eq to.now (codes "__name__") ≡ true) }
     ensures clash { IsErrOf result RenameLabelError.Clash
-        ↔ ((is_metric_label from.now || is_metric_label to.now ≡ false)
+        ↔ ((bytes_eq from.now (codes "__name__") || bytes_eq to.now (codes "__name__") ≡ false)
         × (clashes from.now to.now (tree_of expr) ≡ true)) }
 {
     if from == METRIC_NAME || to == METRIC_NAME {
