@@ -3,6 +3,7 @@ pub mod BracedLens
 pub mod Counted
 pub mod Digits
 pub mod FromEmpty
+pub mod Indentations
 pub mod Indents
 pub mod Layouts
 pub mod LayoutsBy

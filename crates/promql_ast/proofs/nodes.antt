@@ -1,4 +1,5 @@
 -- Nodes and lists of them, as they are seen, a file a topic.
+pub mod ArgumentLists
 pub mod Args
 pub mod ChangedLists
 pub mod ExpressionLists
