@@ -1,4 +1,5 @@
 -- What is printed is read again, a file a topic.
+pub mod AnsweredMatchers
 pub mod BuiltTrees
 pub mod ClosedTrees
 pub mod Grouped

@@ -3,8 +3,8 @@
 ghost use Rattle.std.specs.Prelude.{◌≡◌, ◌≢◌, ◌↔◌, ◌⊎◌, ◌&&◌, ◌*◌, ◌<◌, ◌≤◌, [], ◌∷◌, false, ℕ, List, Ok, Option, Some, codes, map, option_map, true};
 ghost use Rattle.std.specs.List.{AllByRecursion};
 ghost use Rattle.promql_text.specs.Texts.{Text};
-ghost use Rattle.promql_label.specs.Answers.{Answer};
-ghost use Rattle.promql_label.specs.PlainMatchers.{PlainMatcher, name_of};
+ghost use Rattle.promql_label.specs.Answers.{Answer, built};
+ghost use Rattle.promql_label.specs.PlainMatchers.{Operator, equal, matches, matches_not, PlainMatcher, plain_matcher, name_of};
 ghost use Rattle.promql_grammar.specs.SourceTokens.{Token, tokens};
 ghost use Rattle.promql_grammar.specs.Symbols.{may_be_name, token_kind};
 ghost use Rattle.promql_kind.specs.Functions.{Signature};
@@ -26,7 +26,7 @@ ghost use Rattle.promql_syntax.specs.ParseAnswers.{HasTree};
 ghost use Rattle.promql_syntax.specs.declared.parser.TheConstants.{MAX_DEPTH};
 ghost use Rattle.promql_rewrite.specs.AddedParens.{AddsParens};
 ghost use Rattle.promql_rewrite.specs.Answered.{IsAnswered};
-ghost use Rattle.promql_rewrite.specs.Collecting.{IsSetOf, from_nodes, own_functions, own_labels, own_metrics};
+ghost use Rattle.promql_rewrite.specs.Collecting.{IsSetOf, from_nodes, is_metric_name, own_functions, own_labels, own_metrics};
 ghost use Rattle.promql_rewrite.specs.Enforcing.{enforced, enforced_selector, has_bare_info, is_info};
 ghost use Rattle.promql_rewrite.specs.Everywhere.{Everywhere};
 ghost use Rattle.promql_rewrite.specs.Mapping.{KindedSelector, outline, selectors_of};
@@ -60,6 +60,15 @@ pub fn well_typed_trees_pass_their_checks()
 {
     promql_ast::laws::checked_trees_are_typed();
 }
+
+/// A matcher is answered exactly if its pattern, where it has one, is the answer for its value. It names a metric exactly if it
+/// is an equal matcher of `__name__`.
+pub fn matchers_by_operator()
+    ensures answered { (g : Text → Answer) (op : Operator) (name value : Text) → IsAnswered g (plain_matcher op name value)
+        ↔ ((w : Text) → (op ≡ matches w) ⊎ (op ≡ matches_not w) → g value ≡ built w) }
+    ensures metrics { (op : Operator) (name value : Text) → (is_metric_name (plain_matcher op name value) ≡ true)
+        ↔ ((op ≡ equal) × (name ≡ codes "__name__")) }
+{}
 
 /// A tree has no bare call of `info` exactly if each of its calls of `info` has two arguments at least.
 pub fn calls_of_info()
