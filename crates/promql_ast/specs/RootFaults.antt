@@ -6,7 +6,7 @@ use Rattle.promql_text.specs.Texts.{Text}
 use Rattle.promql_token.specs.Ids.{is_aggregator, is_comparison_operator, is_operator, is_set_operator}
 use Rattle.promql_kind.specs.Functions.{signature}
 use Rattle.promql_kind.specs.Modifiers as kind
-use Rattle.promql_kind.specs.Modifiers.{Matching, matching, one_to_one, many_to_many, default_matching}
+use Rattle.promql_kind.specs.Modifiers.{Matching, matching, one_to_one, many_to_many, fills}
 use Rattle.promql_kind.specs.declared.value.ValueType.{ValueType}
 use Rattle.promql_kind.specs.declared.value.ValueType.TheVariants.{Vector}
 use Rattle.promql_ast.specs.Arguments.{count}
@@ -56,5 +56,6 @@ to_many (matching one_to_one clause return_bool values) = matching many_to_many 
 to_many m = m
 
 abbrev pub with_set_matching : Tree → Tree
-with_set_matching (binary op l r m) = binary op l r (if is_set_operator op then Some (to_many (unwrap_or m default_matching)) else m)
+with_set_matching (binary op l r m) =
+    binary op l r (if is_set_operator op then Some (to_many (unwrap_or m (matching one_to_one None false (fills None None)))) else m)
 with_set_matching t = t

@@ -6,7 +6,7 @@ use Rattle.std.proofs.lemmas.Bool.{ne_eqb}
 use Rattle.promql_text.specs.Texts.{Text}
 use Rattle.promql_token.specs.Ids.{is_comparison_operator, is_operator, is_set_operator}
 use Rattle.promql_kind.specs.Functions.{signature}
-use Rattle.promql_kind.specs.Modifiers.{one_to_one, many_to_one, one_to_many, many_to_many, Matching, matching, default_matching}
+use Rattle.promql_kind.specs.Modifiers.{one_to_one, many_to_one, one_to_many, many_to_many, Matching, matching, fills}
 use Rattle.promql_kind.specs.ValueTypes.{type_eq}
 use Rattle.promql_kind.specs.declared.value.ValueType.{ValueType}
 use Rattle.promql_ast.specs.Arguments.{count}
@@ -73,7 +73,7 @@ typing_in_order false name ks ts = types_in_order name ks ts
 -- ---- the matching of a set operator
 
 settled_alike : (b : Bool) (m : Option Matching)
-    → (if b then Some (settled_set m) else m) ≡ (if b then Some (to_many (unwrap_or m default_matching)) else m)
+    → (if b then Some (settled_set m) else m) ≡ (if b then Some (to_many (unwrap_or m (matching one_to_one None false (fills None None)))) else m)
 settled_alike false m = refl
 settled_alike true None = refl
 settled_alike true (Some (matching one_to_one clause return_bool values)) = refl
