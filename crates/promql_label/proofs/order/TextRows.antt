@@ -1,5 +1,5 @@
 -- Rows of the least texts: where a text goes in a row, and what is left after one.
-use Rattle.std.proofs.Common.{◌≡◌, ℕ, zero, suc, ◌+◌, ◌-◌, ◌<◌, ◌≤◌, ◌≢◌, Bool, true, false, cond, leb, leb-true, leb-false, min, set, List, [], ◌∷◌, ◌++◌, Option, Some, None, length, take, drop, map, get_or, refl, sym, ap, ap₂, subst, ◌∙◌, append_assoc, append-nil, true≢false, arith}
+use Rattle.std.proofs.Common.{◌≡◌, ℕ, zero, suc, ◌+◌, ◌-◌, ◌<◌, ◌≤◌, ◌≢◌, Bool, true, false, cond, leb, leb-true, leb-false, min, set, List, [], ◌∷◌, ◌++◌, Option, Some, None, length, take, drop, map, get_or, refl, sym, ap, ap₂, subst, ◌∙◌, append-nil, true≢false, arith}
 use Rattle.std.specs.Prelude.{◌↔◌, IsTrue, insert, not}
 use Rattle.std.specs.List.{filter, AllWithin}
 use Rattle.std.specs.List.Sorted.{IsPartitionedBy}
@@ -13,7 +13,7 @@ use Rattle.std.proofs.Math.ListN.{length-append}
 use Rattle.promql_text.specs.Texts.{Text}
 use Rattle.promql_label.specs.NextText.{Each, Follows, Rises, again, is_above, is_less, last_of, times}
 use Rattle.promql_label.specs.SortedTexts.{text_order, insert_text, sorted_texts}
-use Rattle.promql_label.proofs.order.RisingTexts.{less_ranks, same, exact, greater_is_less, insert_above, insert_here, follows_through, holds_not, above_up, sorted_rises, sorted_more, kept, left_out}
+use Rattle.promql_label.proofs.order.RisingTexts.{less_ranks, same, exact, greater_is_less, insert_above, insert_here, follows_through, holds_not, above_up, sorted_more, kept, left_out}
 
 -- ---- where a text goes
 

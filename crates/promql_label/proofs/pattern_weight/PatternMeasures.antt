@@ -1,5 +1,5 @@
 -- How the measure of a pattern is counted byte by byte, up to the greatest number.
-use Rattle.std.proofs.Common.{◌≡◌, ℕ, zero, suc, ◌+◌, ◌*◌, ◌<◌, ◌≤◌, min, max, Bool, true, false, cond, [], ◌∷◌, refl, sym, ap, ap₂, ◌∙◌, ◌-◌, ◌^◌, ◌⊎◌, count_by, zero-add, true≢false, ⊎_elim, le-mul_of_pos_right, mul_assoc, mul_comm, arith, drop, length, slice_index, take, ◌==◌, ◌||◌}
+use Rattle.std.proofs.Common.{◌≡◌, ℕ, zero, suc, ◌+◌, ◌*◌, ◌<◌, ◌≤◌, min, max, Bool, true, false, cond, [], ◌∷◌, refl, sym, ap, ◌∙◌, ◌-◌, ◌^◌, count_by, zero-add, true≢false, ⊎_elim, le-mul_of_pos_right, mul_assoc, mul_comm, arith, drop, length, slice_index, take, ◌==◌, ◌||◌}
 use Rattle.std.specs.Prelude.{◌&&◌, not}
 use Rattle.std.specs.Char.{is_ascii_digit}
 use Rattle.std.proofs.lemmas.Bool.{cases_lt}

@@ -1,8 +1,8 @@
 -- How much of a pattern is read with how many bytes, where counts repeat it.
-use Rattle.std.proofs.Common.{◌≡◌, ℕ, zero, suc, ◌+◌, ◌-◌, ◌*◌, ◌≤◌, Bool, true, false, List, [], ◌∷◌, Option, Some, None, map, unwrap_or, refl, sym, ap, subst, le_trans, le_of_eq, add-sub_of_le, mul-le-mul_left, mul-le-mul_right, le-mul_of_pos_right, mul_comm, arith}
+use Rattle.std.proofs.Common.{◌≡◌, ℕ, zero, suc, ◌+◌, ◌-◌, ◌*◌, ◌≤◌, Bool, true, false, List, [], ◌∷◌, Option, Some, None, map, unwrap_or, refl, ap, le_trans, le_of_eq, mul-le-mul_left, mul-le-mul_right, arith}
 use Rattle.regex_syntax.specs.Brackets.{Nested}
 use Rattle.regex_hir.specs.Meaning.{copies, up_to}
-use Rattle.regex.specs.Patterns.{Re, alt_all, cat_all, empty, repeat}
+use Rattle.regex.specs.Patterns.{Re, alt_all, cat_all, repeat}
 use Rattle.promql_label.specs.PatternSize.{weight}
 
 -- ---- parts

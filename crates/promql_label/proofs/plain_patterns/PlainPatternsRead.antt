@@ -12,7 +12,7 @@ use Rattle.regex_syntax.specs.Reading.{◌>>=◌, ◌>>◌, ◌∈◌, first, is
 use Rattle.regex.specs.Patterns.{Re, alt_all, cat_all, default_config, group as in_group}
 use Rattle.promql_text.specs.Texts.{Text}
 use Rattle.promql_label.specs.Answers.{anchor, is_read}
-use Rattle.promql_label.specs.EngineAnswers.{IsRead, IsReadPair}
+use Rattle.promql_label.specs.EngineAnswers.{IsReadPair}
 use Rattle.promql_label.specs.declared.plain.After.TheVariants as after
 use Rattle.promql_label.specs.PatternSize.{repeats_from, size, weight}
 use Rattle.promql_label.specs.PlainPatterns.{is_plain, next, start}

@@ -1,5 +1,5 @@
 -- Worked lists of matchers.
-use Rattle.std.proofs.Common.{◌≡◌, inl, inr, refl, ap, [], ◌∷◌, arith}
+use Rattle.std.proofs.Common.{inl, inr, refl, ap, [], ◌∷◌, arith}
 use Rattle.promql_text.specs.Quoting.{unquoted_text}
 use Rattle.promql_token.specs.declared.ids.TheConstants.{T_COMMA, T_EQL, T_IDENTIFIER, T_NUMBER, T_STRING}
 use Rattle.std.specs.Prelude.{codes}

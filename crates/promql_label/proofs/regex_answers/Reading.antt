@@ -11,7 +11,7 @@ use Rattle.regex.specs.Names.{names_of}
 use Rattle.regex.specs.Strings.{regex_source}
 use Rattle.regex.specs.declared.string.regex.Regex.{Regex}
 use Rattle.promql_label.specs.Answers.{Allows, anchor, Answer, as_it_is, built, by_escaping, is_read, is_read_pair, neither, rejected}
-use Rattle.promql_label.specs.EngineAnswers.{AllowsBy, by_itself, by_its_escaped, by_none, IsCompiledFrom, IsReadPair, IsRejected, IsTriedBy, MayRejectBy}
+use Rattle.promql_label.specs.EngineAnswers.{AllowsBy, by_itself, by_its_escaped, by_none, IsCompiledFrom, IsReadPair, IsTriedBy, MayRejectBy}
 use Rattle.promql_label.specs.Repeats.{escaped_repeats}
 use Rattle.promql_text.specs.Texts.{Text}
 
