@@ -4,5 +4,6 @@ pub mod Args
 pub mod ChangedLists
 pub mod ExpressionLists
 pub mod LastArguments
+pub mod Leaves
 pub mod NodeParts
 pub mod NodesPrinted

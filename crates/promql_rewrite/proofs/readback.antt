@@ -8,6 +8,7 @@ pub mod NoneEmptyGroups
 pub mod NormalMatchers
 pub mod NormalPrintable
 pub mod ParsedPrintable
+pub mod PlacesAndGroups
 pub mod PrintableByNodes
 pub mod PrintableParts
 pub mod PrintablePlaces

@@ -1,13 +1,16 @@
 //! Laws: the contracts of functions that do nothing.
 
-ghost use Rattle.std.specs.Prelude.{◌≡◌, ◌≢◌, ◌↔◌, ◌⊎◌, ◌&&◌, ◌*◌, ◌<◌, ◌≤◌, [], ◌∷◌, false, ℕ, List, Ok, Option, Some, codes, map, option_map, true};
+ghost use Rattle.std.specs.Prelude.{◌≡◌, ◌≢◌, ◌↔◌, ◌⊎◌, ◌&&◌, ◌*◌, ◌<◌, ◌≤◌, [], ◌∷◌, false, ℕ, List, length, Ok, Option, Some, codes, map, option_map, true};
 ghost use Rattle.std.specs.List.{AllByRecursion};
 ghost use Rattle.promql_text.specs.Texts.{Text};
 ghost use Rattle.promql_label.specs.Answers.{Answer, built};
-ghost use Rattle.promql_label.specs.PlainMatchers.{Operator, equal, matches, matches_not, PlainMatcher, plain_matcher, name_of};
+ghost use Rattle.promql_label.specs.PlainMatchers.{Operator, equal, matches, matches_not, PlainMatcher, plain_matcher, plain_matchers, name_of};
+ghost use Rattle.promql_token.specs.declared.ids.TheConstants.{T_POW};
+ghost use Rattle.promql_grammar.specs.Grammar.{precedence};
 ghost use Rattle.promql_grammar.specs.SourceTokens.{Token, tokens};
 ghost use Rattle.promql_grammar.specs.Symbols.{may_be_name, token_kind};
 ghost use Rattle.promql_kind.specs.Functions.{Signature};
+ghost use Rattle.promql_kind.specs.Modifiers.{Matching};
 ghost use Rattle.promql_ast.specs.Arguments.{count};
 ghost use Rattle.promql_ast.specs.Checked.{check_tree};
 ghost use Rattle.promql_ast.specs.Faults.{passes};
@@ -18,7 +21,7 @@ ghost use Rattle.promql_ast.specs.Normal.{normal};
 ghost use Rattle.promql_ast.specs.Selectors.{Selector};
 ghost use Rattle.promql_ast.specs.Shifts.{Shift, ahead, back};
 ghost use Rattle.promql_ast.specs.Text.{text};
-ghost use Rattle.promql_ast.specs.Tree.{Tree, Trees, call, matrix, vector};
+ghost use Rattle.promql_ast.specs.Tree.{Tree, Trees, binary, call, matrix, vector};
 ghost use Rattle.promql_ast.specs.Typed.{Typed, TypedSelector};
 ghost use Rattle.promql_ast.specs.Types.{type_of};
 ghost use Rattle.promql_ast.specs.declared.range_mode.RangeMode.{RangeMode};
@@ -31,7 +34,7 @@ ghost use Rattle.promql_rewrite.specs.Enforcing.{enforced, enforced_selector, ha
 ghost use Rattle.promql_rewrite.specs.Everywhere.{Everywhere};
 ghost use Rattle.promql_rewrite.specs.Mapping.{KindedSelector, outline, selectors_of};
 ghost use Rattle.promql_rewrite.specs.Parenthesizing.{parenthesized};
-ghost use Rattle.promql_rewrite.specs.PrintableConditions.{PrintableOffset, PrintableTime};
+ghost use Rattle.promql_rewrite.specs.PrintableConditions.{AreGrouped, IsRightSide, PrintableOffset, PrintableTime};
 ghost use Rattle.promql_rewrite.specs.PrintableTrees.{HasParts, IsPlaced, IsPrintable, IsPrintableAlone, PatternsAnswered, printed_height};
 ghost use Rattle.promql_rewrite.specs.RenamedParts.{clause_with, label_with, matching_with, metric_with, selector_with};
 ghost use Rattle.promql_rewrite.specs.Renaming.{Renaming, clashes, is_name, of_label, of_metric, renamed, renamed_selector, replaced};
@@ -138,6 +141,15 @@ pub fn renamings_change_parts()
 pub fn names_of_metrics()
     ensures { (text : Text) → (is_name text ≡ true) ↔ ((t : Token) × (tokens text ≡ Ok (t ∷ [])) × (t.1 ≡ text)
         × (may_be_name (token_kind t.0) ≡ true)) }
+{}
+
+/// A tree may be a right side exactly if it is not binary, or has a higher precedence, or both are powers. Where there are
+/// or-groups, there are two at least, none of them empty, and no matcher beside them.
+pub fn places_and_groups()
+    ensures right_sides { (op : ℕ) (t : Tree) → IsRightSide op t ↔ ((inner : ℕ) (l r : Tree) (m : Option Matching)
+        → t ≡ binary inner l r m → (precedence op < precedence inner) ⊎ ((op ≡ T_POW) × (inner ≡ T_POW))) }
+    ensures groups { (cs : List PlainMatcher) (gs : List (List PlainMatcher)) → AreGrouped (plain_matchers cs gs)
+        ↔ (gs ≢ [] → (cs ≡ []) × (2 ≤ length gs) × AllByRecursion (λ g. g ≢ []) gs) }
 {}
 
 /// An offset is printable exactly if its length, in either direction, is a printable time.
