@@ -3,10 +3,10 @@
 ghost use Rattle.regex.specs.Patterns.{default_config};
 ghost use Rattle.regex_syntax.specs.Grammar.{read};
 ghost use Rattle.std.specs.Prelude.{◌≡◌, ◌≢◌, ◌↔◌, ◌<◌, ◌≤◌, ◌++◌, ◌∷◌, ℕ, [], List, IsSomeAnd, IsTrue, Ok, Some, chars, codes, false, if◌then◌else◌, length, map, true};
-ghost use Rattle.std.specs.List.{list_any, position_or_len, AllPairs, Contains};
+ghost use Rattle.std.specs.List.{join_by, list_any, position_or_len, AllPairs, Contains};
 ghost use Rattle.std.specs.Str.{bytes_eq};
 ghost use Rattle.std.specs.List.Sorted.{IsSortedByKey, IsStableByKey};
-ghost use Rattle.promql_text.specs.Quoting.{unquoted_text};
+ghost use Rattle.promql_text.specs.Quoting.{quoted_text, unquoted_text};
 ghost use Rattle.promql_text.specs.Texts.{Text};
 ghost use Rattle.promql_label.specs.Answers.{Allows, anchor, Answer, has_one_answer, is_read_pair, pattern_answer};
 ghost use Rattle.promql_label.specs.Labels.{common, is_among, is_number_word, label_text, labels_of};
@@ -14,7 +14,7 @@ ghost use Rattle.promql_label.specs.MatcherRows.{WorkedLists};
 ghost use Rattle.promql_label.specs.Operators.{IsMatcherOf};
 ghost use Rattle.promql_label.specs.PatternSize.{is_small, size, weight};
 ghost use Rattle.promql_label.specs.PlainPatterns.{is_plain};
-ghost use Rattle.promql_label.specs.PlainMatchers.{Operator, PlainMatcher, PlainMatchers, append_plain, matcher_text, matchers_text, name_text, operator_text, plain_matchers};
+ghost use Rattle.promql_label.specs.PlainMatchers.{Operator, PlainMatcher, PlainMatchers, append_plain, matcher_text, matchers_text, name_of, name_text, operator_text, plain_matchers, value_of};
 ghost use Rattle.promql_label.specs.ReadMatchers.{MeanGroups, operator_id, parts_of, printed_groups, sorted_matchers};
 ghost use Rattle.promql_label.specs.Repeats.{backslashed, escaped_repeats, opens_count, OpensCount};
 ghost use Rattle.promql_label.specs.RepeatPlaces.{bytes_from};
@@ -22,6 +22,7 @@ ghost use Rattle.promql_label.specs.SortedTexts.{sorted_texts, text_order};
 ghost use Rattle.promql_token.specs.Classes.{is_label};
 ghost use Rattle.promql_token.specs.Ids.{text_of};
 ghost use Rattle.promql_token.specs.Lexing.{pieces};
+ghost use Rattle.promql_token.specs.declared.ids.TheConstants.{T_COMMA, T_IDENTIFIER, T_LOR, T_STRING};
 ghost use Rattle.promql_token.specs.declared.state.Mode.TheVariants.{Braces};
 ghost use Rattle.promql_text.specs.Equalities.{HashesAlike, IsSameBy};
 ghost use Rattle.promql_label.specs.MatcherErrors.{plain_error_of};
@@ -92,12 +93,16 @@ pub fn operators_print_as_their_tokens()
     ensures { (op : Operator) → operator_text op ≡ text_of (operator_id op) }
 {}
 
-/// A printed list of matchers is read in braces, at any depth and before any text, as tokens that mean its matchers, group by group,
-/// in the order in which they print. Tokens mean one operator, name and value of each matcher, so lists that print alike have the
+/// A printed list of matchers is read in braces, at any depth and before any text, as the tokens of its matchers, with a comma
+/// between each two and an `or` between each two groups. They mean its matchers, group by group, in the order in which they print. Tokens mean one operator, name and value of each matcher, so lists that print alike have the
 /// same. They mean nothing but what some list prints.
 pub fn printed_matchers_read_back()
     ensures tokens { (cs : PlainMatchers)
-        → (ts : List (ℕ × Text)) × MeanGroups ts (printed_groups cs) × ((depth : ℕ) (r : Text)
+        → (ts : List (ℕ × Text)) × (ts ≡ join_by (join_by (λ c.
+        ((if is_label (name_of c) then T_IDENTIFIER else T_STRING), name_text (name_of c))
+        ∷ ((parts_of c).0, text_of (parts_of c).0) ∷ (T_STRING, quoted_text (value_of c)) ∷ [])
+        ((T_COMMA, codes ",") ∷ [])) ((T_LOR, codes "or") ∷ []) (printed_groups cs))
+        × MeanGroups ts (printed_groups cs) × ((depth : ℕ) (r : Text)
         → pieces (record { depth = depth; mode = Braces }) (matchers_text cs ++ r)
         ≡ map (λ t. Ok t) ts ++ pieces (record { depth = depth; mode = Braces }) r) }
     ensures one_meaning { (ts : List (ℕ × Text)) (gs hs : List (List PlainMatcher))

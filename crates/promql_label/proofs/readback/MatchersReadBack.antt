@@ -13,7 +13,7 @@ use Rattle.promql_token.specs.declared.ids.TheConstants.{T_COMMA, T_IDENTIFIER, 
 use Rattle.promql_label.specs.Operators.{IsMatcherOf}
 use Rattle.promql_label.specs.PlainMatchers.{Operator, equal, not_equal, matches, matches_not, PlainMatcher, plain_matcher, PlainMatchers, plain_matchers, matchers_text}
 use Rattle.promql_label.specs.ReadMatchers.{sorted_matchers, printed_groups, operator_id, parts_of, IsString, MeanMatcher, MeanGroup, MeanGroups}
-use Rattle.promql_label.proofs.readback.MatcherTokens.{Token, inside, name_token, matcher_tokens, group_tokens, matchers_tokens}
+use Rattle.promql_label.proofs.readback.MatcherTokens.{Token, inside, name_token, matcher_tokens, group_tokens, matchers_tokens, by_parts, tokens_by_parts}
 use Rattle.promql_label.proofs.readback.PrintedTokens.{matchers_read}
 
 -- ---- the tokens of a list mean its matchers
@@ -103,8 +103,9 @@ tokens_mean (plain_matchers plain []) = groups_mean (sorted_matchers plain) []
 tokens_mean (plain_matchers plain (g ∷ gs)) = groups_mean g gs
 
 pub tokens_read : (cs : PlainMatchers)
-    → (ts : List (ℕ × Text)) × MeanGroups ts (printed_groups cs) × ((depth : ℕ) (r : Text) → pieces (inside depth) (matchers_text cs ++ r) ≡ map (λ t. Ok t) ts ++ pieces (inside depth) r)
-tokens_read cs = (matchers_tokens cs, tokens_mean cs, λ depth r. matchers_read depth cs r)
+    → (ts : List (ℕ × Text)) × (ts ≡ join_by (join_by tokens_by_parts ((T_COMMA, codes ",") ∷ [])) ((T_LOR, codes "or") ∷ []) (printed_groups cs))
+    × MeanGroups ts (printed_groups cs) × ((depth : ℕ) (r : Text) → pieces (inside depth) (matchers_text cs ++ r) ≡ map (λ t. Ok t) ts ++ pieces (inside depth) r)
+tokens_read cs = (matchers_tokens cs, by_parts cs, tokens_mean cs, λ depth r. matchers_read depth cs r)
 
 -- ---- tokens mean one thing only
 
