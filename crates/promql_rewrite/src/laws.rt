@@ -22,7 +22,7 @@ ghost use Rattle.promql_ast.specs.Selectors.{Selector};
 ghost use Rattle.promql_ast.specs.Shifts.{Shift, ahead, back};
 ghost use Rattle.promql_ast.specs.Text.{text};
 ghost use Rattle.promql_ast.specs.Tree.{Tree, Trees, binary, call, matrix, vector};
-ghost use Rattle.promql_ast.specs.Typed.{Typed, TypedSelector};
+ghost use Rattle.promql_ast.specs.Typed.{Typed};
 ghost use Rattle.promql_ast.specs.Types.{type_of};
 ghost use Rattle.promql_ast.specs.declared.range_mode.RangeMode.{RangeMode};
 ghost use Rattle.promql_syntax.specs.ParseAnswers.{HasTree};
@@ -252,7 +252,7 @@ pub fn mapped_trees()
         → map (λ (x : KindedSelector). x.0) (selectors_of t)
         ≡ map (λ (x : KindedSelector). x.0) (selectors_of u) }
     ensures typed { (t u : Tree) → outline t ≡ outline u → Typed t
-        → AllByRecursion (λ (x : KindedSelector). TypedSelector x.1) (selectors_of u) → Typed u }
+        → AllByRecursion (λ (x : KindedSelector). Typed (vector x.1)) (selectors_of u) → Typed u }
     ensures same { (t u : Tree) → outline t ≡ outline u → selectors_of t ≡ selectors_of u → t ≡ u }
 {}
 

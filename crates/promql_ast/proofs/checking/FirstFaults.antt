@@ -103,8 +103,10 @@ first_faults (subquery e offset at range step) =
     unless_first (when (not (is_vector (type_of e))) (subquery_type (type_of e))) [] (passes (subquery e offset at range step))
 first_faults (number n) = refl
 first_faults (string s) = refl
-first_faults (vector (selector name matchers offset at)) =
-    unless_first (name_fault name matchers) [] (passes (vector (selector name matchers offset at)))
+first_faults (vector (selector (Some name) matchers offset at)) =
+    unless_first (name_fault (Some name) matchers) [] (passes (vector (selector (Some name) matchers offset at)))
+first_faults (vector (selector None matchers offset at)) =
+    unless_first (name_fault None matchers) [] (passes (vector (selector None matchers offset at)))
 first_faults (matrix s range mode) = refl
 first_faults (call (signature name types variadic gives experimental) ts) =
     let whole = passes (call (signature name types variadic gives experimental) ts) in
