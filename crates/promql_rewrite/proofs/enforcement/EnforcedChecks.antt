@@ -1,6 +1,7 @@
 -- An enforced tree has the tree's types, and passes the checks and the builders that the tree passes.
 use Rattle.std.proofs.Common.{◌≡◌, ◌≢◌, ℕ, ◌+◌, refl, ◌∙◌, ap, Bool, true, false, cond, not, Option, Some, None, List, [], ◌∷◌, length, codes}
 use Rattle.std.specs.Prelude.{option_and_then}
+use Rattle.std.specs.Option.{option_map_or}
 use Rattle.promql_text.specs.Texts.{Text}
 use Rattle.promql_token.specs.Ids.{is_aggregator_with_param}
 use Rattle.promql_label.specs.PlainMatchers.{PlainMatcher, name_of}
@@ -51,7 +52,7 @@ same_types name (k ∷ []) (first e f s) = λ i. cond (not (type_eq k (e i))) (S
 same_types name (k ∷ j ∷ ks) (first e f s) = λ i. cond (not (type_eq k (e i))) (Some (type_expected k (in_call name) (Some (e i)))) (same_types name (j ∷ ks) s i)
 
 same_typing : (name : Text) (ks : List ValueType) {ts us : Trees} → SameTypes ts us → typing_fault name ks us ≡ typing_fault name ks ts
-same_typing name ks s = λ i. cond (is_exempt_number name (same_first s i)) None (same_types name ks s i)
+same_typing name ks s = λ i. cond (option_map_or (λ n. is_exempt_number name (Some n)) (same_first s i) false) None (same_types name ks s i)
 
 unless_passes : (f : Option Fault) (v : Verdict) (u : Tree) → unless f v ≡ passes u → (f ≡ None) × (v ≡ passes u)
 unless_passes (Some f) v u e = cc

@@ -3,6 +3,7 @@ use Rattle.std.proofs.Common.{◌≡◌, ◌≢◌, ◌⊎◌, ◌+◌, max, ref
 use Rattle.std.specs.Prelude.{find, option_map}
 use Rattle.std.specs.Str.{bytes_eq}
 use Rattle.std.proofs.lemmas.Slice.Eq.{bytes_eq-Decides}
+use Rattle.std.specs.Option.{option_map_or}
 use Rattle.promql_text.specs.Texts.{Text}
 use Rattle.promql_label.specs.PlainMatchers.{PlainMatcher, PlainMatchers, every, holds, is_of, name_of, value_of}
 use Rattle.promql_kind.specs.Functions.{Signature, signature}
@@ -71,7 +72,7 @@ module _ (c : PlainMatcher) where
 
   all_exempt : (name : Text) (ts : Trees) → is_exempt name (all_enforced c ts) ≡ is_exempt name ts
   all_exempt name no_trees = refl
-  all_exempt name (first_tree t ts) = ap (is_exempt_number name) (scalar_enforced t)
+  all_exempt name (first_tree t ts) = ap (λ o. option_map_or (λ n. is_exempt_number name (Some n)) o false) (scalar_enforced t)
 
   call_typed : (f : Signature) (ts us : Trees) → count us ≡ count ts → ((name : Text) → is_exempt name us ≡ is_exempt name ts)
       → ((ks : List ValueType) → TypedArgs ks ts → TypedArgs ks us) → TypedSignature f ts → TypedSignature f us

@@ -1,6 +1,7 @@
 -- A tree is well typed exactly if its outline is, and its selectors are.
-use Rattle.std.proofs.Common.{◌≡◌, ◌⊎◌, ◌↔◌, ◌+◌, ℕ, refl, sym, ◌∙◌, ap, subst, Option, Some, List, [], ◌∷◌, ◌++◌, length}
+use Rattle.std.proofs.Common.{◌≡◌, ◌⊎◌, ◌↔◌, ◌+◌, ℕ, refl, sym, ◌∙◌, ap, subst, false, Option, Some, List, [], ◌∷◌, ◌++◌, length}
 use Rattle.std.specs.List.{AllByRecursion}
+use Rattle.std.specs.Option.{option_map_or}
 use Rattle.promql_text.specs.Texts.{Text}
 use Rattle.promql_kind.specs.Functions.{Signature, signature}
 use Rattle.promql_kind.specs.declared.value.ValueType.{ValueType}
@@ -45,7 +46,7 @@ count_outline (first_tree t ts) = λ i. count_outline ts i + 1
 
 exempt_outline : (name : Text) (ts : Trees) → is_exempt name (all_outlines ts) ≡ is_exempt name ts
 exempt_outline name no_trees = refl
-exempt_outline name (first_tree t ts) = ap (is_exempt_number name) (scalar_outline t)
+exempt_outline name (first_tree t ts) = ap (λ o. option_map_or (λ n. is_exempt_number name (Some n)) o false) (scalar_outline t)
 
 args_outline : (ks : List ValueType) (ts : Trees) → TypedArgs ks (all_outlines ts) ↔ TypedArgs ks ts
 args_outline [] ts = (λ h. h, λ h. h)

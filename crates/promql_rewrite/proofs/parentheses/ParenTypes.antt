@@ -1,5 +1,6 @@
 -- A tree keeps its type, its parts and its patterns where parentheses are added, it stays well typed, and grows little.
 use Rattle.std.proofs.Common.{◌≡◌, ◌⊎◌, ◌+◌, ◌*◌, ◌≤◌, ◌<◌, ℕ, refl, sym, ◌∙◌, ap, subst, arith, Bool, true, false, cond, Option, Some, List, [], ◌∷◌, length}
+use Rattle.std.specs.Option.{option_map_or}
 use Rattle.promql_text.specs.Texts.{Text}
 use Rattle.promql_text.specs.Values.{is_below_zero}
 use Rattle.promql_text.specs.declared.number.Number.{Number}
@@ -70,7 +71,7 @@ args_kept (k ∷ j ∷ ks) (first_tree t ts) h = (type_kept t ∙ h.0, args_kept
 
 exempt_kept : (name : Text) (ts : Trees) → is_exempt name (all_parenthesized ts) ≡ is_exempt name ts
 exempt_kept name no_trees = refl
-exempt_kept name (first_tree t ts) = ap (is_exempt_number name) (scalar_kept t)
+exempt_kept name (first_tree t ts) = ap (λ o. option_map_or (λ n. is_exempt_number name (Some n)) o false) (scalar_kept t)
 
 call_kept : (f : Signature) (ts : Trees) → TypedSignature f ts → TypedSignature f (all_parenthesized ts)
 call_kept (signature name types variadic gives experimental) ts h = record {

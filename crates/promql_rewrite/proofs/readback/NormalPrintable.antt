@@ -1,5 +1,6 @@
 -- A tree whose normal form is printable is printable.
 use Rattle.std.proofs.Common.{◌≡◌, ◌⊎◌, inl, inr, ◌+◌, ℕ, max, min, refl, sym, ◌∙◌, ap, subst, arith, false, Option, Some, None, List, [], ◌∷◌, length}
+use Rattle.std.specs.Option.{option_map_or}
 use Rattle.promql_text.specs.Texts.{Text}
 use Rattle.promql_text.specs.declared.number.Number.{Number}
 use Rattle.promql_grammar.specs.Grammar.{FitsLeft, precedence}
@@ -112,7 +113,7 @@ scalar_normal t = refl
 
 exempt_normal : (name : Text) (ts : Trees) → is_exempt name (all_normal ts) ≡ is_exempt name ts
 exempt_normal name no_trees = refl
-exempt_normal name (first_tree t ts) = ap (is_exempt_number name) (scalar_normal t)
+exempt_normal name (first_tree t ts) = ap (λ o. option_map_or (λ n. is_exempt_number name (Some n)) o false) (scalar_normal t)
 
 args_of_normal : (ks : List ValueType) (ts : Trees) → TypedArgs ks (all_normal ts) → TypedArgs ks ts
 args_of_normal [] ts h = tt

@@ -2,7 +2,9 @@
 use Rattle.std.proofs.Common.{◌≡◌, ◌⊎◌, ℕ, ◌+◌, refl, sym, ◌∙◌, ap, subst, Bool, true, false, ◌||◌, Option, Some, None, List, [], ◌∷◌, ◌++◌, length}
 use Rattle.std.specs.Prelude.{◌==◌, not, option_map}
 use Rattle.std.specs.List.{list_any}
+use Rattle.std.proofs.lemmas.List.{length-map}
 use Rattle.std.proofs.lemmas.List.Folds.{list_any-append}
+use Rattle.std.specs.Option.{option_map_or}
 use Rattle.promql_text.specs.Texts.{Text}
 use Rattle.promql_kind.specs.Functions.{Signature, signature}
 use Rattle.promql_kind.specs.Modifiers.{including, excluding, Matching, matching}
@@ -18,7 +20,7 @@ use Rattle.promql_ast.specs.Types.{type_of}
 use Rattle.promql_ast.specs.check.AggregateChecks.{maybe_type}
 use Rattle.promql_ast.specs.check.CallChecks.{is_exempt, is_exempt_number}
 use Rattle.promql_rewrite.specs.Collecting.{all_nodes, maybe_nodes, nodes_of}
-use Rattle.promql_rewrite.specs.Renaming.{Renaming, of_label, of_metric, all_renamed, maybe_renamed, renamed, renamed_cardinality, renamed_labels, renamed_matching, renamed_selector}
+use Rattle.promql_rewrite.specs.Renaming.{Renaming, of_label, of_metric, replaced, all_renamed, maybe_renamed, renamed, renamed_cardinality, renamed_labels, renamed_matching, renamed_selector}
 use Rattle.promql_rewrite.proofs.renamed.RenamedTypes.{type_renamed}
 
 pub neither : (a b : Bool) → a || b ≡ false → (a ≡ false) × (b ≡ false)
@@ -37,8 +39,7 @@ module _ (r : Renaming) where
     where
       go : (r : Renaming) (ls : List Text) → not (length (renamed_labels r ls) == 0) ≡ not (length ls == 0)
       go (of_metric from to) ls = refl
-      go (of_label from to) [] = refl
-      go (of_label from to) (l ∷ ls) = refl
+      go (of_label from to) ls = ap (λ n. not (n == 0)) (length-map ls (replaced from to))
 
   same_bool : (m : Option Matching) → returns_bool (option_map (renamed_matching r) m) ≡ returns_bool m
   same_bool None = refl
@@ -97,7 +98,7 @@ module _ (r : Renaming) where
 
   all_exempt : (name : Text) (ts : Trees) → is_exempt name (all_renamed r ts) ≡ is_exempt name ts
   all_exempt name no_trees = refl
-  all_exempt name (first_tree t ts) = ap (is_exempt_number name) (scalar_renamed t)
+  all_exempt name (first_tree t ts) = ap (λ o. option_map_or (λ n. is_exempt_number name (Some n)) o false) (scalar_renamed t)
 
   call_typed : (f : Signature) (ts : Trees) → TypedSignature f ts → TypedSignature f (all_renamed r ts)
   call_typed (signature name types variadic gives experimental) ts h = record {

@@ -1,6 +1,7 @@
 -- The bytes of the items of a printed line: its parts.
-use Rattle.std.proofs.Common.{◌≡◌, ℕ, ◌%◌, refl, sym, ◌∙◌, ap, Bool, true, false, cond, not, ◌&&◌, Option, Some, None, List, [], ◌∷◌, ◌++◌, append-nil, append_assoc, map, codes}
+use Rattle.std.proofs.Common.{◌≡◌, ℕ, ◌%◌, arith, refl, sym, ◌∙◌, ap, Bool, true, false, cond, not, ◌&&◌, ◌||◌, length, Option, Some, None, List, [], ◌∷◌, ◌++◌, append-nil, append_assoc, map, codes}
 use Rattle.std.specs.Prelude.{◌==◌}
+use Rattle.std.proofs.lemmas.Bool.{ne_eqb}
 use Rattle.std.specs.Int.{is_negative}
 use Rattle.std.specs.List.{flat_map}
 use Rattle.promql_text.specs.DurationText.{duration_text}
@@ -137,6 +138,13 @@ group_bytes many_to_many = refl
 labels_then : (ls : List Text) (card : Cardinality) → render (labels_line (labels ls) ++ group_line (group card)) ≡ (codes "(" ++ (labels_text ls ++ codes ")")) ++ grouping_text card
 labels_then ls card = render_both (labels_line (labels ls)) (group_line (group card)) _ _ (labels_bytes ls) (group_bytes card)
 
+-- after `ignoring`, where the list is empty or not
+abbrev ignoring_text : List Text → Bool → Cardinality → Text
+ignoring_text ls is_empty card = cond (not is_empty || is_grouping card) (codes " ignoring (" ++ (labels_text ls ++ codes ")")) [] ++ grouping_text card
+
+ignored : (l : Text) (ls : List Text) (card : Cardinality) (t : Text) → t ≡ ignoring_text (l ∷ ls) false card → t ≡ matched_text (is_grouping card) (Some (excluding (l ∷ ls))) ++ grouping_text card
+ignored l ls card t h = h ∙ sym (ap (λ is_empty. ignoring_text (l ∷ ls) is_empty card) (ne_eqb (length (l ∷ ls)) 0 (omega arith)))
+
 matching_bytes : (c : Option Clause) (card : Cardinality) → IsGroupedAfter c card → render (matching_line (matching_of_clause (normal_matched (is_grouping card) c) (group card))) ≡ matched_text (is_grouping card) c ++ grouping_text card
 matching_bytes None one_to_one h = refl
 matching_bytes None (many_to_one ls) h = absurd h
@@ -150,10 +158,10 @@ matching_bytes (Some (excluding [])) one_to_one h = refl
 matching_bytes (Some (excluding [])) (many_to_one ks) h = ap (λ t. codes " ignoring " ++ t) (labels_then [] (many_to_one ks))
 matching_bytes (Some (excluding [])) (one_to_many ks) h = ap (λ t. codes " ignoring " ++ t) (labels_then [] (one_to_many ks))
 matching_bytes (Some (excluding [])) many_to_many h = refl
-matching_bytes (Some (excluding (l ∷ ls))) one_to_one h = ap (λ t. codes " ignoring " ++ t) (labels_then (l ∷ ls) one_to_one)
-matching_bytes (Some (excluding (l ∷ ls))) (many_to_one ks) h = ap (λ t. codes " ignoring " ++ t) (labels_then (l ∷ ls) (many_to_one ks))
-matching_bytes (Some (excluding (l ∷ ls))) (one_to_many ks) h = ap (λ t. codes " ignoring " ++ t) (labels_then (l ∷ ls) (one_to_many ks))
-matching_bytes (Some (excluding (l ∷ ls))) many_to_many h = ap (λ t. codes " ignoring " ++ t) (labels_then (l ∷ ls) many_to_many)
+matching_bytes (Some (excluding (l ∷ ls))) one_to_one h = ignored l ls one_to_one _ (ap (λ t. codes " ignoring " ++ t) (labels_then (l ∷ ls) one_to_one))
+matching_bytes (Some (excluding (l ∷ ls))) (many_to_one ks) h = ignored l ls (many_to_one ks) _ (ap (λ t. codes " ignoring " ++ t) (labels_then (l ∷ ls) (many_to_one ks)))
+matching_bytes (Some (excluding (l ∷ ls))) (one_to_many ks) h = ignored l ls (one_to_many ks) _ (ap (λ t. codes " ignoring " ++ t) (labels_then (l ∷ ls) (one_to_many ks)))
+matching_bytes (Some (excluding (l ∷ ls))) many_to_many h = ignored l ls many_to_many _ (ap (λ t. codes " ignoring " ++ t) (labels_then (l ∷ ls) many_to_many))
 
 fills_bytes : (f : Fills) → render (fills_line (fill_words f)) ≡ fills_text f
 fills_bytes (fills None None) = refl

@@ -1,6 +1,7 @@
 -- The normal form passes the checks that a tree passes.
 use Rattle.std.proofs.Common.{◌≡◌, ℕ, ◌+◌, refl, sym, ◌∙◌, ap, Bool, true, false, cond, not, Option, Some, None, List, [], ◌∷◌, length}
 use Rattle.std.specs.Prelude.{option_and_then}
+use Rattle.std.specs.Option.{option_map_or}
 use Rattle.promql_text.specs.Texts.{Text}
 use Rattle.promql_token.specs.Ids.{is_aggregator, is_aggregator_with_param}
 use Rattle.promql_kind.specs.Functions.{Signature, signature}
@@ -18,7 +19,7 @@ use Rattle.promql_ast.specs.Normal.{normal, maybe_normal, all_normal}
 use Rattle.promql_ast.specs.Tree.{Tree, aggregate, unary, binary, paren, subquery, number, string, vector, matrix, call, extension, MaybeTree, absent, present, Trees, no_trees, first_tree}
 use Rattle.promql_ast.specs.Types.{type_of}
 use Rattle.promql_ast.specs.check.AggregateChecks.{aggregate_fault, maybe_type, param_fault, param_type}
-use Rattle.promql_ast.specs.check.CallChecks.{arity_fault, is_exempt_number, types_fault, typing_fault}
+use Rattle.promql_ast.specs.check.CallChecks.{arity_fault, is_exempt, is_exempt_number, types_fault, typing_fault}
 use Rattle.promql_ast.specs.node.Binary.{binary_type}
 
 -- ---- types
@@ -101,8 +102,11 @@ types_normal name (k ∷ []) (first_tree t ts) =
 types_normal name (k ∷ j ∷ ks) (first_tree t ts) =
     λ i. cond (not (type_eq k (type_normal t i))) (Some (type_expected k (in_call name) (Some (type_normal t i)))) (types_normal name (j ∷ ks) ts i)
 
+exempt_normal : (name : Text) (ts : Trees) → is_exempt name (all_normal ts) ≡ is_exempt name ts
+exempt_normal name ts = ap (λ o. option_map_or (λ n. is_exempt_number name (Some n)) o false) (first_normal ts)
+
 typing_normal : (name : Text) (ks : List ValueType) (ts : Trees) → typing_fault name ks (all_normal ts) ≡ typing_fault name ks ts
-typing_normal name ks ts = λ i. cond (is_exempt_number name (first_normal ts i)) None (types_normal name ks ts i)
+typing_normal name ks ts = λ i. cond (exempt_normal name ts i) None (types_normal name ks ts i)
 
 pub call_again : (f : Signature) (ts : Trees) (u : Tree) → check_tree (call f ts) ≡ passes u → PassesAgain (call f ts) u (check_tree (call f (all_normal ts))) (call f (all_normal ts))
 call_again (signature name types variadic gives experimental) ts u h =

@@ -51,3 +51,11 @@ pub returns-in_err-matching-clause-place : goal.returns-in_err-matching-clause-p
 returns-in_err-matching-clause-place c =
     err_within _ c.from_residual-in_err-matching.result c.in_err-matching.field-0.0 c.from_residual-in_err-matching.ensures.1
     (c.in_err-matching.ensures.place _ (c.in_ok-labels.ensures.left modifier _ ((c.in_ok-card.ensures.left modifier _ (c.new-fields.ensures.left modifier (codes "card") refl) refl).3 (Some (codes "labels")) refl) refl).0 (c.in_ok-labels.ensures.left modifier _ ((c.in_ok-card.ensures.left modifier _ (c.new-fields.ensures.left modifier (codes "card") refl) refl).3 (Some (codes "labels")) refl) refl).1)
+
+pub returns-in_err-matching-clause-err : goal.returns-in_err-matching-clause-err
+returns-in_err-matching-clause-err c =
+    err_within _ c.from_residual-in_err-matching.result c.in_err-matching.field-0.0 c.from_residual-in_err-matching.ensures.1
+    (λ other. no_modifier _ (λ card clause r l right left h.
+    let all = sym c.in_ok-card.ensures.ok ∙ ap members_view c.new-fields.ensures.all ∙ h in
+    let two = sym c.in_ok-labels.ensures.ok ∙ ap (λ ms. rest_of (rest_of (rest_of ms))) all in
+    c.in_err-matching.ensures.err other clause (cc two) (cc two)))
