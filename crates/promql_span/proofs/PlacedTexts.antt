@@ -65,7 +65,10 @@ pieces_placed s = all_texts s (cut start s) start 0 (omega arith) refl ∙ ap (s
 
 -- ---- the token list
 
-up_to_none : (ts : List (ℕ × Text)) → ok_prefix (map (λ t. Ok t) ts) ≡ ts
+abbrev scanned : List (ℕ × Text) → List ScannedText
+scanned ts = map (λ t. Ok t) ts
+
+up_to_none : (ts : List (ℕ × Text)) → ok_prefix (scanned ts) ≡ ts
 up_to_none [] = refl
 up_to_none (t ∷ ts) = ap (λ l. t ∷ l) (up_to_none ts)
 
