@@ -8,7 +8,7 @@ use Rattle.std.proofs.lemmas.List.Elements.{Contains-append_left, Contains-appen
 use Rattle.std.proofs.lemmas.Slice.Eq.{bytes_eq-Decides}
 use Rattle.promql_text.specs.Texts.{Text}
 use Rattle.promql_label.specs.Labels.{common, is_among}
-use Rattle.promql_label.specs.PlainMatchers.{equal, PlainMatcher, plain_matcher, PlainMatchers, plain_matchers, every, holds, is_of, value_of}
+use Rattle.promql_label.specs.PlainMatchers.{equal, not_equal, matches, matches_not, PlainMatcher, plain_matcher, PlainMatchers, plain_matchers, every, holds, is_of, value_of}
 use Rattle.promql_label.proofs.label_lists.CommonLabels.{common-Contains, is_among-from_Contains}
 use Rattle.promql_kind.specs.Modifiers.{Clause, including, excluding, one_to_one, many_to_one, one_to_many, many_to_many, Matching, matching, clause_labels}
 use Rattle.promql_ast.specs.OptionalModifiers.{joint_labels}
@@ -82,7 +82,10 @@ module _ (from to : Text) where
         go false is = refl
 
     still_fails : (c : PlainMatcher) → holds c [] ≡ false → holds (renamed_matcher (of_label from to) c) [] ≡ false
-    still_fails (plain_matcher op name value) h = h
+    still_fails (plain_matcher equal name value) h = h
+    still_fails (plain_matcher not_equal name value) h = h
+    still_fails (plain_matcher (matches w) name value) h = h
+    still_fails (plain_matcher (matches_not w) name value) h = h
 
     pub label_selector : (s : Selector) → TypedSelector s → TypedSelector (renamed_selector (of_label from to) s)
     label_selector = selector_typed (of_label from to) same_of still_fails (λ o cs x y before after. after)

@@ -3,7 +3,7 @@ use Rattle.std.proofs.Common.{◌≡◌, ◌≢◌, refl, sym, ap, cond, ◌&&�
 use Rattle.std.specs.List.{list_any}
 use Rattle.std.specs.Str.{bytes_eq}
 use Rattle.promql_text.specs.Texts.{Text}
-use Rattle.promql_label.specs.PlainMatchers.{PlainMatcher, plain_matcher, PlainMatchers, plain_matchers}
+use Rattle.promql_label.specs.PlainMatchers.{equal, not_equal, matches, matches_not, PlainMatcher, plain_matcher, PlainMatchers, plain_matchers}
 use Rattle.promql_ast.specs.Selectors.{Selector, selector}
 use Rattle.promql_rewrite.specs.Renaming.{of_label, renamed_matcher, renamed_matchers, renamed_selector, replaced}
 use Rattle.promql_rewrite.specs.Selecting.{Series, allow_all, allows, has_name, matchers_select, selects}
@@ -14,7 +14,10 @@ module _ (from to : Text) (series : Series) where
   read l = series (replaced from to l)
 
   allowed : (c : PlainMatcher) → allows (renamed_matcher (of_label from to) c) series ≡ allows c read
-  allowed (plain_matcher op name value) = refl
+  allowed (plain_matcher equal name value) = refl
+  allowed (plain_matcher not_equal name value) = refl
+  allowed (plain_matcher (matches w) name value) = refl
+  allowed (plain_matcher (matches_not w) name value) = refl
 
   all_allowed : (cs : List PlainMatcher) → allow_all (map (renamed_matcher (of_label from to)) cs) series ≡ allow_all cs read
   all_allowed [] = refl
