@@ -202,7 +202,7 @@ object_here : (rows : List (Text × new.Form)) (e : Expected) (d : Data) → kin
 object_here rows e d is other = inl (refl, sym is, unlike object d (subst (λ k. IsNot k d) (sym is) other))
 
 at_here : (f : old.Form) (d : Data) (e : Expected) (i : ℕ) → slice_get (expected_at f) i ≡ Some e → IsNot e d → T f (Some d) [] e
-at_here (old.node zero) d e i is other = inl (refl, sym (only kind.Object e i is), unlike object d (subst (λ k. IsNot k d) (sym (only kind.Object e i is)) other))
+at_here (old.node zero) d e i is other = absurd cc
 at_here (old.node (suc n)) d e i is other = inl (refl, sym (only kind.Object e i is), unlike object d (subst (λ k. IsNot k d) (sym (only kind.Object e i is)) other))
 at_here (one x) d e i is other = inl (leaf_here x e d (only x e i is) other)
 at_here (word x) d e i is other = both_here kind.Text x e d (either_of kind.Text x e i is) other
@@ -257,7 +257,7 @@ untyped_in o ms ((k, rows) ∷ table) ((l, more) ∷ others) all none =
 sound : (f : old.Form) (d : Data) (path : Text) (e : Expected) → MisfitAt f d path e → T f (Some d) path e
 sound f d path e (old.here _ _ _ i is other) = at_here f d e i is other
 sound f d path e (old.differs _ w other) = (d, refl, refl, at_once w d other)
-sound f d path e (old.too_high _) = inr (refl, refl, λ x. x)
+sound f d path e (old.too_high _) = (refl, refl, λ x. x)
 sound f d path e (old.missing _ g ms name row required none) =
     subst (λ p. T f (Some (object ms)) (codes "." ++ p) kind.Missing) (append-nil name)
     (in_object f ms name [] kind.Missing (some_rows name (rows f) g row)

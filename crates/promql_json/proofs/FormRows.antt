@@ -360,7 +360,7 @@ Tables o [] (x ∷ others) = ⊥
 Tables o (x ∷ table) [] = ⊥
 
 node_missing : (n : ℕ) → new.node n None [] kind.Missing
-node_missing zero = inl (refl, refl)
+node_missing zero = (refl, refl)
 node_missing (suc n) = inl (refl, refl)
 
 node_row : (n : ℕ) (o : Option Data) (k : Text) → Row o k (old.node n) (new.node n)

@@ -129,10 +129,6 @@ pub err_from : {T E : Type 0} (P Q : E → Type 0) (r : Result T E) → IsErrAnd
 err_from P Q (Ok v) h f = absurd h
 err_from P Q (Err y) h f = f y h
 
-pub err_each : {T E : Type 0} (P Q : E → Type 0) (r : Result T E) → IfErr r P → ((y : E) → P y → Q y) → IfErr r Q
-err_each P Q (Ok v) h f = tt
-err_each P Q (Err y) h f = f y h
-
 abbrev pub value_of : Members → Data
 value_of no_members = null
 value_of (member k d ms) = d

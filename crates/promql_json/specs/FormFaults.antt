@@ -144,5 +144,5 @@ of_type ((name, rows) ∷ more) o path e =
 
 -- a node of at most so many nodes above one another
 abbrev pub node : ℕ → Form
-node zero = both (is kind.Object (like object)) (is kind.LowTree (λ d. ⊥))
+node zero = is kind.LowTree (λ d. ⊥)
 node (suc n) = λ o. both (is kind.Object (like object)) (of_type (nodes (node n) o)) o

@@ -1,6 +1,6 @@
 -- Private: a relation of a value that is no form, a path and what was expected there, which readers give. `FormFaults` says more shortly
 -- what follows from it. No contract of a public function speaks of it.
-use Rattle.std.specs.Prelude.{◌≡◌, ◌≢◌, ℕ, ◌+◌, ℤ, List, [], ◌∷◌, ◌++◌, ◌||◌, Bool, true, false, if◌then◌else◌, Option, Some, None, codes, slice_get, FitsSigned}
+use Rattle.std.specs.Prelude.{◌≡◌, ◌≢◌, ℕ, zero, ◌+◌, ℤ, List, [], ◌∷◌, ◌++◌, ◌||◌, Bool, true, false, if◌then◌else◌, Option, Some, None, codes, slice_get, FitsSigned}
 use Rattle.std.specs.Fmt.{decimal}
 use Rattle.std.specs.Int.{w64}
 use Rattle.std.specs.Option.{option_map_or}
@@ -103,6 +103,7 @@ expected_at (list_of e f) = kind.List ∷ e ∷ []
 expected_at no_list = kind.List ∷ kind.EmptyList ∷ []
 expected_at (or_null f) = []
 expected_at (exactly d) = []
+expected_at (node zero) = []
 expected_at _ = kind.Object ∷ []
 
 -- a value is not what is expected; of what is left out the places below say more

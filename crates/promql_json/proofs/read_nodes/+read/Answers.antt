@@ -1,15 +1,15 @@
 use Rattle.promql_json.proofs.ReadableTrees.{aggregator, operator}
-use Rattle.promql_json.specs.FormMisfits.{by_row, function, list_of, node, node_named, one, or_null, word, too_high, untyped, MisfitAt}
+use Rattle.promql_json.specs.FormMisfits.{by_row, expected_at, function, list_of, node, node_named, one, or_null, word, too_high, untyped, MisfitAt}
 use Rattle.serde_json.specs.Find.{get_member}
 use Rattle.promql_json.proofs.MembersInOrder.{item_there}
-use Rattle.std.proofs.Common.{ℕ, zero, suc, ◌-◌, ◌+◌, ◌≡◌, ◌∙◌, None, ap, sym, map, take_all, codes, arith, refl, Some, rules, [], subst}
+use Rattle.std.proofs.Common.{ℕ, zero, suc, ◌-◌, ◌+◌, ◌≡◌, ◌∙◌, None, ap, sym, map, take_all, codes, arith, refl, Some, rules, [], slice_get, subst}
 use Rattle.std.proofs.lemmas.Grind.{common_steps}
 use Rattle.serde_json.specs.View.{items_of, members_view, view}
 use Rattle.promql_ast.specs.View.{tree_of, trees_of}
 use Rattle.promql_json.specs.JsonFaults.{args_fault, json_fault}
 use Rattle.promql_json.proofs.NoNodes.{no_node, no_other_node}
 use Rattle.promql_json.proofs.ReadForms.{err_within, items_of_args, no_args, one_more_fits, rest_of, same_members, value_of, differ}
-use Rattle.promql_json.specs.declared.from_error.Expected.TheVariants.{Aggregator, Flag, List as ListThere, LowTree, Minus, Operator}
+use Rattle.promql_json.specs.declared.from_error.Expected.TheVariants.{Aggregator, Flag, List as ListThere, LowTree, Minus, Object as ObjectThere, Operator}
 use Rattle.promql_json.proofs.ErrorPlaces.{one_here, nullable, in_typed, tree_type, typed_as, matching_asked, same_type, untyped_node, no_row}
 use Rattle.serde_json.specs.declared.value.Value.{the_lemmas}
 use Rattle.std.proofs.lemmas.Result.{IfErr-weaker}
@@ -299,9 +299,14 @@ read_node-returns-in_default-clause-place t c =
     c.at.ensures (node (c.args.depth + 1)) _ (untyped c.args.depth _ (untyped_node c.args.depth _ c.args.node.now c.requires.1.1
     (no_row c.args.depth c.args.node.now c.in_default.not-aggregation c.in_default.not-unaryExpr c.in_default.not-binaryExpr c.in_default.not-parenExpr c.in_default.not-subquery c.in_default.not-numberLiteral c.in_default.not-stringLiteral c.in_default.not-vectorSelector c.in_default.not-matrixSelector c.in_default.not-call)))
 
+object_expected : (n : ℕ) → (n ≡ 0 → ⊥) → slice_get (expected_at (node n)) 0 ≡ Some ObjectThere
+object_expected zero h = absurd (h refl)
+object_expected (suc n) h = refl
+
 pub read_expr-returns-in_err-members-clause-place : goal.read_expr-returns-in_err-members-clause-place
 read_expr-returns-in_err-members-clause-place t c =
-    err_within _ c.from_residual.result c.in_err-members.field-0.0 c.from_residual.ensures.1 (c.in_err-members.ensures.place (node c.args.depth) refl)
+    err_within _ c.from_residual.result c.in_err-members.field-0.0 c.from_residual.ensures.1
+    (c.in_err-members.ensures.place (node c.args.depth) (object_expected c.args.depth c.if-depth-eq0.false))
 
 less_one : (n : ℕ) → (n ≡ 0 → ⊥) → n - 1 + 1 ≡ n
 less_one zero h = absurd (h refl)
