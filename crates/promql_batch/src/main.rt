@@ -1,9 +1,9 @@
 //! `promql_batch MODE`: reads a PromQL query from each line of a file or of standard input, and prints an answer for each.
 #![tactic(auto)]
 
-use promql_io::ended::Ended;
-use promql_io::input::open_argument;
 use promql_lines::batch_program::batch_program;
+use promql_run::ended::Ended;
+use promql_run::input::open_argument;
 use promql_run::output::exit_status;
 use promql_run::run::RunError;
 use std::io::{BufReader, BufWriter, Write};

@@ -1,9 +1,9 @@
 //! `promql_check`: reads a PromQL query from a file or from standard input, and says why and where it is rejected.
 #![tactic(auto)]
 
-use promql_io::ended::Ended;
-use promql_io::input::open_argument;
 use promql_report::check::check_program;
+use promql_run::ended::Ended;
+use promql_run::input::open_argument;
 use promql_run::output::exit_status;
 use std::env;
 use std::env::VarError;

@@ -1,9 +1,9 @@
 //! `promql_enforce MATCHER`: reads a PromQL query from a file or from standard input, and writes it with a matcher in every selector.
 #![tactic(auto)]
 
-use promql_io::ended::Ended;
-use promql_io::input::open_argument;
 use promql_lines::enforce_program::enforce_program;
+use promql_run::ended::Ended;
+use promql_run::input::open_argument;
 use promql_run::output::exit_status;
 use std::process::ExitCode;
 

@@ -6,8 +6,8 @@ mod query_layout;
 mod settings;
 
 use program::format_program;
-use promql_io::ended::Ended;
-use promql_io::input::open_argument;
+use promql_run::ended::Ended;
+use promql_run::input::open_argument;
 use promql_run::output::exit_status;
 use std::process::ExitCode;
 

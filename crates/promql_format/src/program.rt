@@ -7,8 +7,8 @@ ghost use Rattle.promql_format.specs.Layouts.{IsFormatAnswer, format_command};
 
 use crate::query_layout::query_layout;
 use crate::settings::{Settings, settings_of};
-use promql_io::ended::Ended;
 use promql_report::limit_options::asked_text;
+use promql_run::ended::Ended;
 use promql_run::output::{show_text, show_usage, write_answer};
 use promql_run::run::read_text;
 use std::alloc::Global;

@@ -1,12 +1,5 @@
-pub mod ErrorPlaces
 pub mod FaultOrder
-pub mod FaultsOfForms
-pub mod FormRows
 pub mod Forms
 pub mod JsonTokens
 pub mod NoFloat
-pub mod MembersInOrder
-pub mod NoNodes
-pub mod ReadForms
-pub mod ReadableTrees
 pub mod SameJsonErrors

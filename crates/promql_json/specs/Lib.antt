@@ -1,12 +1,6 @@
 pub mod Events
-pub mod FormFaults
-pub mod FormMembers
-pub mod FormMisfits
 pub mod FormNames
 pub mod Json
 pub mod JsonFaults
 pub mod JsonParts
 pub mod JsonTokens
-pub mod MembersLeft
-pub mod Readable
-pub mod ReadableBelow

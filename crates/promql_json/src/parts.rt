@@ -17,7 +17,7 @@ ghost use Rattle.promql_json.specs.FormNames.{is_excluding, optional_labels, ste
 ghost use Rattle.promql_json.specs.JsonParts as spec;
 ghost use Rattle.promql_json.specs.JsonTokens.{groups_member, member, mode_member, moment_members, tokens};
 
-use crate::values::{is_without, offset_millis};
+use crate::values::{is_without, offset_millis, type_name};
 use crate::writer::JsonWriter;
 use promql_ast::{AtModifier, Offset, RangeMode};
 use promql_kind::{
@@ -310,17 +310,6 @@ pub(crate) fn write_mode(out: &mut JsonWriter, mode: RangeMode) -> Result<(), Al
         RangeMode::Plain => Ok(()),
         RangeMode::Smoothed => out.string_member("rangeMode", "smoothed"),
         RangeMode::Anchored => out.string_member("rangeMode", "anchored"),
-    }
-}
-
-pub(crate) fn type_name(value_type: ValueType) -> &'static str
-    ensures { result.now ≡ type_text value_type }
-{
-    match value_type {
-        ValueType::Vector => "vector",
-        ValueType::Scalar => "scalar",
-        ValueType::Matrix => "matrix",
-        ValueType::String => "string",
     }
 }
 

@@ -5,7 +5,7 @@ use Rattle.std.specs.Io.KnownBytes.{Appends, Consumes, Keeps}
 use Rattle.std.specs.List.{AllByRecursion, list_all}
 use Rattle.std.proofs.lemmas.List.Elements.{All-head, All-tail}
 use Rattle.promql_text.specs.Texts.{Text}
-use Rattle.promql_io.proofs.KnownBytes.{appends_keeps, appends_more, appends_none, consumes_more, consumes_none, whole_begun}
+use Rattle.promql_run.proofs.KnownBytes.{appends_keeps, appends_more, appends_none, consumes_more, consumes_none, whole_begun}
 use Rattle.promql_lines.specs.declared.settings.Settings.{Settings}
 use Rattle.promql_lines.specs.Batch.{Answer, AnswersBefore, AnswersLines, AreAnswered, AreLines, IsCutShort, IsLineAnswer, IsOpen, ended_lines}
 use Rattle.promql_lines.specs.BatchSteps.{HasNoFeed, HaveNoFeed, IsAll, IsAnswered, IsLineRead, IsPartRead, IsPartlyAnswered}

@@ -11,7 +11,7 @@ use Rattle.serde_json.specs.Read.{read}
 use Rattle.serde_json.specs.Written.{compact_text}
 use Rattle.promql_text.specs.Texts.{Text}
 use Rattle.promql_ast.specs.Tree.{Tree}
-use Rattle.promql_io.specs.Ended.{AppendsBeginning}
+use Rattle.promql_run.specs.Ended.{AppendsBeginning}
 use Rattle.promql_json.specs.JsonParts.{list}
 use Rattle.promql_span.specs.declared.limits.Limits.{Limits}
 use Rattle.promql_lines.specs.EnforcedLines.{Enforces}

@@ -9,7 +9,7 @@ use Rattle.serde_json.specs.Data.{Data}
 use Rattle.serde_json.specs.Read.{read}
 use Rattle.promql_text.specs.Texts.{Text}
 use Rattle.promql_ast.specs.Tree.{Tree}
-use Rattle.promql_io.specs.Ended.{AppendsBeginning}
+use Rattle.promql_run.specs.Ended.{AppendsBeginning}
 use Rattle.promql_report.specs.Rejecting.{IsTold}
 use Rattle.promql_report.specs.declared.rejection.Rejection.{Rejection}
 use Rattle.promql_rewrite.specs.Faithful.{IsLineOf, Means}

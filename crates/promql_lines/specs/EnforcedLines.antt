@@ -1,7 +1,7 @@
 -- The line of a query with a matcher in its selectors (docs/guide/rewriting.md, "Enforcing"; docs/reference/programs.md, "One query,
 -- enforced").
 use Rattle.std.specs.Prelude.{◌≡◌, ◌++◌, if◌then◌else◌, List, ◌∷◌, Option, None, Result, Ok, Err, codes, option_map}
-use Rattle.promql_io.specs.Arguments.{is_option}
+use Rattle.promql_run.specs.Arguments.{is_option}
 use Rattle.promql_text.specs.Texts.{Text}
 use Rattle.promql_ast.specs.Tree.{Tree}
 use Rattle.promql_rewrite.specs.MatcherTexts.{IsEnforcedBy, IsMatcherText, MeetsBareInfo, selector_around}

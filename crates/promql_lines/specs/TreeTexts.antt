@@ -8,8 +8,8 @@ use Rattle.promql_span.specs.declared.limits.Limits.{Limits}
 use Rattle.promql_ast.specs.Text.{text as line_text}
 use Rattle.promql_ast.specs.Tree.{Tree}
 use Rattle.promql_json.specs.Json.{json}
-use Rattle.promql_json.specs.Readable.{IsNoForm}
-use Rattle.promql_json.specs.declared.from_error.FromJsonError.TheVariants as from
+use Rattle.promql_from_json.specs.Readable.{IsNoForm}
+use Rattle.promql_from_json.specs.declared.from_error.FromJsonError.TheVariants as from
 use Rattle.promql_rewrite.specs.Faithful.{IsLineOf, Means}
 use Rattle.promql_rewrite.specs.Parenthesizing.{parenthesized}
 use Rattle.promql_rewrite.specs.Reasons.{IsReason}

@@ -2,17 +2,17 @@
 
 ghost use Rattle.std.specs.Prelude.{◌≡◌, ◌≢◌, ◌⊎◌, ◌++◌, [], ◌∷◌, false, true, IfOk, OnOk, IfErr, OnErr, IsErrOf, MatchResult};
 ghost use Rattle.std.specs.Io.KnownBytes.{Appends, Keeps};
-ghost use Rattle.promql_io.specs.Ended.{AppendsBeginning, has_feed};
+ghost use Rattle.promql_run.specs.Ended.{AppendsBeginning, has_feed};
 ghost use Rattle.promql_lines.specs.Batch.{AnswersBefore, AnswersLines, IsCutShort};
 ghost use Rattle.promql_lines.specs.BatchSteps.{IsLineRead, IsPartRead, IsAnswered, IsPartlyAnswered, IsReadingError, IsBatchError};
 
 use crate::line::answer_line;
 use crate::settings::Settings;
-use promql_io::ahead::ReadsAhead;
-use promql_io::ended::Ended;
-use promql_io::reading::ReadFault;
-use promql_io::writing::{WriteFailed, flush, write_whole};
+use promql_run::ahead::ReadsAhead;
+use promql_run::ended::Ended;
+use promql_run::reading::ReadFault;
 use promql_run::run::RunError;
+use promql_run::writing::{WriteFailed, flush, write_whole};
 use std::alloc::Global;
 use std::io::{BufRead, Write};
 

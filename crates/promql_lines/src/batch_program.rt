@@ -8,9 +8,9 @@ ghost use Rattle.promql_lines.specs.BatchArguments.{batch_command, settings_of};
 
 use crate::batch::run_batch;
 use crate::settings::Settings;
-use promql_io::ahead::ReadsAhead;
-use promql_io::ended::Ended;
 use promql_report::limit_options::{asked_text, default_limits, limits_with};
+use promql_run::ahead::ReadsAhead;
+use promql_run::ended::Ended;
 use promql_run::format::Format;
 use promql_run::output::{USAGE_STATUS, show_text, show_usage};
 use promql_run::run::RunError;

@@ -11,9 +11,9 @@ ghost use Rattle.promql_span.specs.declared.limits.Limits as spans;
 
 use crate::enforced_line::enforced_line;
 use crate::query_error::QueryError;
-use promql_io::arguments::is_option;
-use promql_io::ended::Ended;
 use promql_report::limit_options::{asked_text, default_limits, limits_with};
+use promql_run::arguments::is_option;
+use promql_run::ended::Ended;
 use promql_run::output::{show_text, show_usage, write_answer};
 use promql_run::run::read_text;
 use promql_span::limits::Limits;

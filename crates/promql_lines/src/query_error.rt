@@ -7,7 +7,8 @@ ghost use Rattle.promql_lines.specs.QueryErrors.{ReadsQuery, query_error_number,
 ghost use Rattle.promql_span.specs.declared.limits.Limits as spans;
 
 use crate::rejected_query::RejectedQuery;
-use promql_json::{FromJsonError, JsonError};
+use promql_from_json::FromJsonError;
+use promql_json::JsonError;
 use promql_report::rejection::Rejection;
 use promql_rewrite::{MatcherError, NotFaithful, NotPrintable};
 use promql_span::limits::{LimitFault, LongOutput};

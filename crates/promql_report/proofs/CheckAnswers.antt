@@ -3,7 +3,7 @@ use Rattle.std.proofs.Common.{◌≡◌, ℕ, List, String, string_bytes, Global
 use Rattle.std.specs.Prelude.{Option, Some, None, option_map, OnOk, OnErr, Result, Ok, Err}
 use Rattle.std.specs.Option.{option_map_or}
 use Rattle.promql_text.specs.Texts.{Text}
-use Rattle.promql_io.specs.Inputs.{IsInput}
+use Rattle.promql_run.specs.Inputs.{IsInput}
 use Rattle.promql_run.specs.Programs.{run, show}
 use Rattle.promql_report.specs.CheckedInputs.{IsChecked}
 use Rattle.promql_report.specs.Checking.{HasQuery, IsWarned}

@@ -5,8 +5,8 @@ use Rattle.promql_report.specs.Rejecting.{IsMessage}
 use Rattle.promql_report.specs.declared.rejection.Rejection.{Rejection}
 use Rattle.promql_text.specs.Texts.{Text}
 use Rattle.promql_report.specs.Checking.{IsQueryIn, IsReported, IsSilent, IsWarned, report_text}
-use Rattle.promql_io.specs.Colors.{painted}
-use Rattle.promql_io.specs.declared.colors.TheConstants.{MAGENTA}
+use Rattle.promql_run.specs.Colors.{painted}
+use Rattle.promql_run.specs.declared.colors.TheConstants.{MAGENTA}
 use Rattle.promql_report.specs.declared.check.TheConstants.{BYTE_ESCAPE, BYTE_ORDER_MARK, WARNING}
 use Rattle.promql_span.specs.Visible.{visible}
 use Rattle.promql_report.specs.declared.check_settings.CheckSettings.{CheckSettings}

@@ -13,9 +13,9 @@ use Rattle.promql_report.specs.CheckSettings.{settings_of}
 use Rattle.promql_report.specs.LimitOptions.{command}
 use Rattle.promql_run.specs.Programs.{Command}
 use Rattle.promql_report.specs.Rejecting.{IsMessage, IsParsed, IsRejection, reason_number}
-use Rattle.promql_io.specs.Colors.{marked, painted}
-use Rattle.promql_io.specs.Inputs.{IsInput}
-use Rattle.promql_io.specs.declared.colors.TheConstants.{BOLD, GREEN, MAGENTA}
+use Rattle.promql_run.specs.Colors.{marked, painted}
+use Rattle.promql_run.specs.Inputs.{IsInput}
+use Rattle.promql_run.specs.declared.colors.TheConstants.{BOLD, GREEN, MAGENTA}
 use Rattle.promql_report.specs.declared.check.TheConstants.{BYTE_ESCAPE, BYTE_ORDER_MARK, CHECK_HELP, CHECK_VERSION, WARNING}
 use Rattle.promql_report.specs.declared.check_settings.CheckSettings.{CheckSettings}
 use Rattle.promql_report.specs.declared.rejection.Rejection.{Rejection}

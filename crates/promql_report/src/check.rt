@@ -13,18 +13,18 @@ ghost use Rattle.promql_report.specs.Checking.{HasQuery, IsQueryIn, IsReported, 
 ghost use Rattle.promql_report.specs.CheckedInputs.{IsChecked, IsReport, warning_text};
 ghost use Rattle.promql_report.specs.declared.check_settings.CheckSettings as checks;
 ghost use Rattle.promql_run.specs.Programs.{Obeys, Reads, run};
-ghost use Rattle.promql_io.specs.Inputs.{IsInput, IsNotUtf8};
+ghost use Rattle.promql_run.specs.Inputs.{IsInput, IsNotUtf8};
 ghost use Rattle.promql_run.specs.StepErrors.{IsInputError};
 
 use crate::check_settings::{CheckSettings, settings_of};
 use crate::limit_options::asked_text;
 use crate::rejection::{Rejection, read_query};
 use promql_ast::drop_expr;
-use promql_io::colors::{BOLD, GREEN, MAGENTA, push_marked, push_painted};
-use promql_io::ended::Ended;
-use promql_io::writing::write_text;
+use promql_run::colors::{BOLD, GREEN, MAGENTA, push_marked, push_painted};
+use promql_run::ended::Ended;
 use promql_run::output::{show_text, show_usage};
 use promql_run::run::{RunError, read_text};
+use promql_run::writing::write_text;
 use promql_span::{Location, Span, byte_escape, snippet, visible};
 use std::alloc::{AllocError, Global};
 use std::io::{Read, Write};

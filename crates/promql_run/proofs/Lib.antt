@@ -1,6 +1,9 @@
-pub mod NoExtensions
-pub mod JsonForms
+mod FileWords
 pub mod Indentations
 pub mod InputsRead
+pub mod JsonForms
+pub mod KnownBytes
+mod Marks
+pub mod NoExtensions
 pub mod SameRunErrors
 pub mod Statuses

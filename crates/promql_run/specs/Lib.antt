@@ -1,5 +1,10 @@
+pub mod ArgumentWords
+pub mod Arguments
+pub mod Colors
+pub mod Ended
 pub mod Extensions
-pub mod Running
-pub mod StepErrors
+pub mod Inputs
 pub mod ProgramArguments
 pub mod Programs
+pub mod Running
+pub mod StepErrors

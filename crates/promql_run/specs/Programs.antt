@@ -2,9 +2,9 @@
 use Rattle.std.specs.Prelude.{◌≡◌, ◌≢◌, ◌⊎◌, ℕ, true, false, List, Option, Some, None}
 use Rattle.std.specs.Io.KnownBytes.{Appends}
 use Rattle.promql_text.specs.Texts.{Text}
-use Rattle.promql_io.specs.Ended.{AppendsBeginning}
-use Rattle.promql_io.specs.Inputs.{AnswersInput, IsInput, IsNotUtf8}
-use Rattle.promql_io.specs.declared.ended.Ended.{Ended}
+use Rattle.promql_run.specs.Ended.{AppendsBeginning}
+use Rattle.promql_run.specs.Inputs.{AnswersInput, IsInput, IsNotUtf8}
+use Rattle.promql_run.specs.declared.ended.Ended.{Ended}
 
 -- what the arguments of a program ask for: to show a text, or to run with settings
 pub data Command (A : Type 0) : Type 0 where

@@ -2,10 +2,10 @@
 
 ghost use Rattle.std.specs.Prelude.{◌≡◌, ◌⊎◌, false, true, if◌then◌else◌};
 ghost use Rattle.std.specs.Io.KnownBytes.{Appends};
-ghost use Rattle.promql_io.specs.Ended.{AppendsBeginning};
+ghost use Rattle.promql_run.specs.Ended.{AppendsBeginning};
 
-use promql_io::ended::Ended;
-use promql_io::writing::write_text;
+use crate::ended::Ended;
+use crate::writing::write_text;
 use std::io::Write;
 
 /// The status for arguments that ask for nothing known.

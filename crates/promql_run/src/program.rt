@@ -6,10 +6,10 @@ ghost use Rattle.promql_run.specs.Programs as asked;
 ghost use Rattle.promql_run.specs.Programs.{AnswersQuery, Obeys};
 ghost use Rattle.promql_run.specs.Running.{FailsToPrint, IsPrinted, error_number};
 
+use crate::ended::Ended;
 use crate::format::Format;
 use crate::output::show_usage;
 use crate::run::run;
-use promql_io::ended::Ended;
 use std::alloc::Global;
 use std::io::{Read, Write};
 

@@ -3,17 +3,17 @@
 ghost use Rattle.std.specs.Prelude.{◌≡◌, ◌≢◌, true, false, OnOk, IfOk, IfErr, IsErrOf, MatchResult, string_bytes};
 ghost use Rattle.std.specs.Io.KnownBytes.{Appends};
 ghost use Rattle.promql_syntax.specs.declared.parser.ParseError.{ParseError};
-ghost use Rattle.promql_io.specs.Ended.{AppendsBeginning};
-ghost use Rattle.promql_io.specs.Inputs.{AnswersInput, HasRead, IsInput, IsNotUtf8};
+ghost use Rattle.promql_run.specs.Ended.{AppendsBeginning};
+ghost use Rattle.promql_run.specs.Inputs.{AnswersInput, HasRead, IsInput, IsNotUtf8};
 ghost use Rattle.promql_run.specs.Running.{FailsToPrint, IsPrinted, error_number};
 ghost use Rattle.promql_run.specs.StepErrors.{IsInputError, IsAnswerError};
 
+use crate::ended::Ended;
 use crate::format::Format;
+use crate::reading::{ReadFault, read_all};
 use crate::rendering::render_line;
+use crate::writing::{WriteFailed, write_text};
 use promql_ast::drop_expr;
-use promql_io::ended::Ended;
-use promql_io::reading::{ReadFault, read_all};
-use promql_io::writing::{WriteFailed, write_text};
 use promql_syntax::parser::{ParseError, parse};
 use std::alloc::{AllocError, Global};
 use std::io::{Read, Write};

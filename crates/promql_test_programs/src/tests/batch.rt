@@ -2,10 +2,10 @@
 
 use super::streams::{FlakyReader, FlakyWriter};
 use super::{check_value, is_so, texts};
-use promql_io::ended::Ended;
 use promql_lines::batch::run_batch;
 use promql_lines::batch_program::{BATCH_HELP, BATCH_USAGE, batch_program};
 use promql_lines::settings::Settings;
+use promql_run::ended::Ended;
 use promql_run::format::Format;
 use promql_run::run::RunError;
 use promql_span::limits::{Limits, MAX_LEN, MAX_OUTPUT, MAX_PATTERN_SIZE};

@@ -2,8 +2,8 @@
 
 use super::streams::{FlakyReader, FlakyWriter};
 use super::{holds, texts};
-use promql_io::ended::Ended;
 use promql_report::check::{CHECK_HELP, CHECK_USAGE, check_program};
+use promql_run::ended::Ended;
 use std::alloc::{AllocError, Global};
 use std::process::Abort;
 

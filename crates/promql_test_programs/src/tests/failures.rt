@@ -2,7 +2,7 @@
 
 use super::check_value;
 use super::streams::{FlakyReader, FlakyWriter};
-use promql_io::ended::Ended;
+use promql_run::ended::Ended;
 use promql_run::format::{Format, PRETTY_LAYOUT};
 use promql_run::run::{RunError, run};
 

@@ -2,7 +2,7 @@
 
 use super::streams::FlakyWriter;
 use super::{holds, is_so, texts};
-use promql_io::ended::Ended;
+use promql_run::ended::Ended;
 use promql_run::program::program;
 use std::alloc::{AllocError, Global};
 use std::process::Abort;

@@ -1,8 +1,8 @@
 //! Runs over readers and writers in memory.
 
 use super::{check_value, is_so, prints};
-use promql_io::ended::Ended;
 use promql_parser::parser::ParseError;
+use promql_run::ended::Ended;
 use promql_run::format::{Format, PRETTY_LAYOUT};
 use promql_run::run::{RunError, run};
 use std::alloc::{AllocError, Global};

@@ -3,7 +3,8 @@
 use super::trees::{new_box, read};
 use super::{Failed, columns, is_so, prints};
 use promql_ast::Expr;
-use promql_json::{FromJsonError, JsonError, from_json_text, json_text};
+use promql_from_json::{FromJsonError, from_json_text};
+use promql_json::{JsonError, json_text};
 use std::alloc::{AllocError, Global};
 
 /// Queries on one line, of each kind of node and part.

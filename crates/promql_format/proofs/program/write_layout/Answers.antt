@@ -1,6 +1,6 @@
 use Rattle.std.proofs.Common.{◌∙◌, ⊎_elim, inl, inr, refl, subst, sym}
 use Rattle.std.specs.Prelude.{Err, Ok}
-use Rattle.promql_io.specs.Inputs.{HasRead}
+use Rattle.promql_run.specs.Inputs.{HasRead}
 use Rattle.promql_format.specs.Layouts.{IsFormatAnswer}
 use Rattle.promql_format.proofs.LayoutFailures.{never_not_utf8}
 use Rattle.promql_lines.proofs.QueryStatuses.{not_status, not_written, three_is_not_utf8}

@@ -1,6 +1,6 @@
 use Rattle.std.proofs.Common.{◌≡◌, ap, refl, subst, sym, ◌∙◌, inr}
 use Rattle.std.specs.Prelude.{◌&&◌, Some}
-use Rattle.promql_io.proofs.KnownBytes.{always_if_err}
+use Rattle.promql_run.proofs.KnownBytes.{always_if_err}
 use Rattle.promql_lines.proofs.Batches.{answered_kept, answered_partly, input_ends, last_line_ends, line_more, nothing_yet, reading_fails, writing_fails}
 use Rattle.promql_lines.specs.BatchSteps.{IsAnswered, IsLineRead, IsPartlyAnswered}
 use Rattle.promql_lines.specs.declared.batch.LineEnd.TheVariants.{Feed}

@@ -1,5 +1,5 @@
 use Rattle.std.proofs.Common.{false}
-use Rattle.promql_io.proofs.KnownBytes.{always_on_err}
+use Rattle.promql_run.proofs.KnownBytes.{always_on_err}
 use Rattle.promql_lines.proofs.MemoryAnswer.{memory_answer, memory_is_answered}
 use Rattle.promql_lines.proofs.batch.write_answer.Goals as goal
 

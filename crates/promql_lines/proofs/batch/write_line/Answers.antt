@@ -1,6 +1,6 @@
 use Rattle.std.proofs.Common.{[], ◌∷◌}
 use Rattle.std.proofs.lemmas.Result.{on_err_weaker}
-use Rattle.promql_io.proofs.KnownBytes.{always_on_err, beginning_after, beginning_longer}
+use Rattle.promql_run.proofs.KnownBytes.{always_on_err, beginning_after, beginning_longer}
 use Rattle.promql_lines.proofs.batch.write_line.Goals as goal
 
 pub returns-in_err-write_whole-clause-begun : goal.returns-in_err-write_whole-clause-begun

@@ -1,5 +1,5 @@
 use Rattle.std.proofs.Common.{ap, inr, map, option_map, string_bytes, sym, ◌∙◌, subst, ⊎_elim}
-use Rattle.promql_io.specs.Inputs.{IsInput}
+use Rattle.promql_run.specs.Inputs.{IsInput}
 use Rattle.promql_run.specs.StepErrors.{IsInputError}
 use Rattle.promql_run.proofs.Statuses.{four_is_parse, none_is_zero}
 use Rattle.promql_report.specs.CheckedInputs.{IsChecked}

@@ -1,0 +1,8 @@
+use Rattle.std.proofs.Common.{◌≡◌, map, take}
+use Rattle.serde_json.specs.View.{view}
+use Rattle.promql_label.specs.MatcherViews.{plain_matcher_of}
+use Rattle.promql_json.specs.JsonParts as spec
+use Rattle.promql_from_json.proofs.read_labels.read_matcher_list.Given as goal
+
+abbrev pub invariant-loop-i : goal.invariant-loop-i
+invariant-loop-i l = map view (take l.i l.list) ≡ map spec.matcher_json (map plain_matcher_of l.group.items)

@@ -1,3 +1,0 @@
-mod FileWords
-pub mod KnownBytes
-mod Marks

@@ -1,5 +1,0 @@
-pub mod Arguments
-pub mod ArgumentWords
-pub mod Colors
-pub mod Ended
-pub mod Inputs

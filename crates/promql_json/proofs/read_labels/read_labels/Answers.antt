@@ -1,9 +1,0 @@
-use Rattle.std.proofs.Common.{refl}
-use Rattle.promql_json.specs.FormMisfits.{labels}
-use Rattle.promql_json.proofs.ReadForms.{err_within}
-use Rattle.promql_json.proofs.read_labels.read_labels.Goals as goal
-
-pub returns-in_err-list-clause-place : goal.returns-in_err-list-clause-place
-returns-in_err-list-clause-place c =
-    err_within _ c.from_residual.result c.in_err-list.field-0.0 c.from_residual.ensures.1
-    (c.in_err-list.ensures.place labels refl)

@@ -1,5 +1,0 @@
-use Rattle.promql_json.specs.FormMisfits.{differs}
-use Rattle.promql_json.proofs.read_modifiers.expect_whole.Goals as goal
-
-pub returns-in_default-clause-place : goal.returns-in_default-clause-place
-returns-in_default-clause-place c = λ other. c.here.ensures _ _ (differs _ _ other)

@@ -1,6 +1,0 @@
-use Rattle.promql_json.proofs.ErrorPlaces.{one_here}
-use Rattle.promql_json.specs.declared.from_error.Expected.TheVariants.{RangeMode}
-use Rattle.promql_json.proofs.read_values.read_mode.Goals as goal
-
-pub returns-in_default-clause-place : goal.returns-in_default-clause-place
-returns-in_default-clause-place c = λ other. c.here.ensures _ _ (one_here RangeMode _ other)
