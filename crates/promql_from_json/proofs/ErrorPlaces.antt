@@ -59,13 +59,13 @@ offset_in f d (Err e) none below place = place (no_millis d none below)
 
 -- ---- objects
 
-pub one_many : (d : Data) (e : ReadError) → IsIn (grouped (codes "one-to-many")) d e → IsIn (one Cardinality) d e
-one_many d Memory place = tt
-one_many d (Misfit m) place = one_to_many d (string_bytes m.path) m.expected place
+pub one_many : (d v : Data) (e : ReadError) → get (codes "one-to-many") d ≡ Some v → IsIn (grouped (codes "one-to-many")) d e → IsIn (one Cardinality) d e
+one_many d v Memory some place = tt
+one_many d v (Misfit m) some place = one_to_many d v (string_bytes m.path) m.expected some place
 
-pub many_one : (d : Data) (e : ReadError) → IsIn (grouped (codes "many-to-one")) d e → IsIn (one Cardinality) d e
-many_one d Memory place = tt
-many_one d (Misfit m) place = many_to_one d (string_bytes m.path) m.expected place
+pub many_one : (d : Data) (e : ReadError) → get (codes "one-to-many") d ≡ None → IsIn (grouped (codes "many-to-one")) d e → IsIn (one Cardinality) d e
+many_one d Memory none place = tt
+many_one d (Misfit m) none place = many_to_one d (string_bytes m.path) m.expected none place
 
 pub in_typed : (n : ℕ) (d : Data) (name : Text) (more : List (Text × Form)) (e : ReadError) → IsTyped d name → row_of name (nodes n) ≡ Some more
     → IsIn (node_named name n) d e → IsIn (node (n + 1)) d e

@@ -275,8 +275,10 @@ sound f d path e (old.untyped n ms none) =
 sound f d path e (old.typed n _ name _ _ more type row fault) =
     subst (λ m. new.node m (Some d) path e) (sym (add-one n))
     (inr (typed_in (Some d) name path e more (old.nodes n) (new.nodes (new.node n) (Some d)) (tables_go n (Some d)) row type (sound (node_named name n) d path e fault)))
-sound f d path e (old.many_to_one _ _ _ fault) = inr (refl, inl (sound (grouped (codes "many-to-one")) d path e fault))
-sound f d path e (old.one_to_many _ _ _ fault) = inr (refl, inr (sound (grouped (codes "one-to-many")) d path e fault))
+sound f d path e (old.many_to_one _ _ _ none fault) =
+    inr (refl, subst (λ o. new.grouped o (Some d) path e) (sym none) (sound (grouped (codes "many-to-one")) d path e fault))
+sound f d path e (old.one_to_many _ v _ _ some fault) =
+    inr (refl, subst (λ o. new.grouped o (Some d) path e) (sym some) (sound (grouped (codes "one-to-many")) d path e fault))
 sound f d path e (old.not_null g _ _ _ other fault) = (λ h. other cc, sound g d path e fault)
 sound f d path e (old.inside _ g _ v name rest _ asks has fault) = asked f g d v name rest e asks has (sound g v rest e fault)
 sound f d path e (old.inside_item x g _ v i rest _ has fault) =

@@ -65,8 +65,7 @@ news old.matcher o =
     ) ∷ []
 news old.modifier o = (
   codes "card",
-  both (is kind.Cardinality (like cardinality_json))
-      (both (object_of (grouped_rows (codes "many-to-one"))) (object_of (grouped_rows (codes "one-to-many")))),
+  both (is kind.Cardinality (like cardinality_json)) (λ p. new.grouped (member (codes "one-to-many") p) p),
 )
     ∷ (codes "fillValues", object_of ((codes "lhs", or (Some null) new.number) ∷ (codes "rhs", or (Some null) new.number) ∷ []))
     ∷ (codes "include", both (is kind.List (like array)) (is kind.EmptyList (λ d. d ≡ array no_items)))
@@ -83,7 +82,7 @@ news f o = []
 
 abbrev pub T : old.Form → new.Form
 T (old.node n) = new.node n
-T (one x) = λ o path e. leaf x o path e ⊎ ((x ≡ kind.Cardinality) × (object_of (grouped_rows (codes "many-to-one")) o path e ⊎ object_of (grouped_rows (codes "one-to-many")) o path e))
+T (one x) = λ o path e. leaf x o path e ⊎ ((x ≡ kind.Cardinality) × new.grouped (member (codes "one-to-many") o) o path e)
 T (word x) = both (leaf kind.Text) (leaf x)
 T (old.list_of x f) = both (both (leaf kind.List) (leaf x)) (items (T f))
 T no_list = both (leaf kind.List) (leaf kind.EmptyList)
@@ -244,7 +243,7 @@ matcher_rows o = (
   ),
 )
 
-card_goes : Goes (one kind.Cardinality) (both (is kind.Cardinality (like cardinality_json)) (both (object_of (grouped_rows (codes "many-to-one"))) (object_of (grouped_rows (codes "one-to-many")))))
+card_goes : Goes (one kind.Cardinality) (both (is kind.Cardinality (like cardinality_json)) (λ o. new.grouped (member (codes "one-to-many") o) o))
 card_goes v path e (inl h) = inl (h.0, h.1, unlike cardinality_json v h.2)
 card_goes v path e (inr h) = inr h.1
 

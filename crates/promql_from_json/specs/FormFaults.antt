@@ -81,10 +81,14 @@ matcher o = object_of (codes "name" has text ∷ codes "type" has is kind.MatchO
     ∷ codes "value" has both text (is kind.Pattern (λ d. (op : Operator) (s : Text)
     → member (codes "type") o ≡ Some (string (operator_text op)) → d ≡ string s → ReadableMatcher (plain_matcher op [] s))) ∷ []) o
 
+-- the object of a cardinality: that of `one-to-many` where it has this member
+abbrev pub grouped : Option Data → Form
+grouped None = object_of (codes "many-to-one" has list (λ i. text) ∷ [])
+grouped (Some labels) = object_of (codes "one-to-many" has list (λ i. text) ∷ [])
+
 abbrev pub modifier : Form
 modifier = object_of (
-    codes "card" has both (is kind.Cardinality (like cardinality_json))
-    (both (object_of (codes "many-to-one" has list (λ i. text) ∷ [])) (object_of (codes "one-to-many" has list (λ i. text) ∷ [])))
+    codes "card" has both (is kind.Cardinality (like cardinality_json)) (λ o. grouped (member (codes "one-to-many") o) o)
     ∷ codes "fillValues" has object_of (codes "lhs" has or (Some null) number ∷ codes "rhs" has or (Some null) number ∷ [])
     ∷ codes "include" has both (is kind.List (like array)) (is kind.EmptyList (λ d. d ≡ array no_items))
     ∷ codes "labels" has list (λ i. text) ∷ codes "on" has is kind.Flag (like boolean) ∷ [])

@@ -142,8 +142,10 @@ pub data MisfitAt : Form → Data → Text → Expected → Type 0 where
       → MisfitAt (node (n + 1)) (object ms) (codes ".type") kind.Node
   typed : (n : ℕ) (d : Data) (name path : Text) (e : Expected) (more : List (Text × Form)) → get (codes "type") d ≡ Some (string name)
       → row_of name (nodes n) ≡ Some more → MisfitAt (node_named name n) d path e → MisfitAt (node (n + 1)) d path e
-  many_to_one : (d : Data) (path : Text) (e : Expected) → MisfitAt (grouped (codes "many-to-one")) d path e → MisfitAt (one kind.Cardinality) d path e
-  one_to_many : (d : Data) (path : Text) (e : Expected) → MisfitAt (grouped (codes "one-to-many")) d path e → MisfitAt (one kind.Cardinality) d path e
+  many_to_one : (d : Data) (path : Text) (e : Expected) → get (codes "one-to-many") d ≡ None → MisfitAt (grouped (codes "many-to-one")) d path e
+      → MisfitAt (one kind.Cardinality) d path e
+  one_to_many : (d v : Data) (path : Text) (e : Expected) → get (codes "one-to-many") d ≡ Some v → MisfitAt (grouped (codes "one-to-many")) d path e
+      → MisfitAt (one kind.Cardinality) d path e
   not_null : (f : Form) (d : Data) (path : Text) (e : Expected) → d ≢ null → MisfitAt f d path e → MisfitAt (or_null f) d path e
   inside : (f g : Form) (d v : Data) (name path : Text) (e : Expected) → AsksOf f d name g → get name d ≡ Some v → MisfitAt g v path e
       → MisfitAt f d (codes "." ++ (name ++ path)) e

@@ -1,4 +1,5 @@
 pub mod FormFaults
+pub mod FormMeasure
 pub mod FormMembers
 pub mod FormMisfits
 pub mod MembersLeft

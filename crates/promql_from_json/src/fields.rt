@@ -1,8 +1,8 @@
 //! The members of an object, read in byte order of their names. Private.
 
-ghost use Rattle.std.specs.Prelude.{◌≡◌, ◌≢◌, ◌∷◌, [], true, IfErr, IfNone, IfOk, IfSome, None, OnErr, OnOk, Option, Some, codes};
+ghost use Rattle.std.specs.Prelude.{◌≡◌, ◌≢◌, ◌∷◌, [], true, IfErr, IfNone, IfOk, IfSome, None, OnErr, OnOk, Option, Some, codes, option_map};
 ghost use Rattle.serde_json.specs.Data.{Data, Members, member, no_members, object, string as text};
-ghost use Rattle.serde_json.specs.Find.{get};
+ghost use Rattle.serde_json.specs.Find.{get, get_member};
 ghost use Rattle.serde_json.specs.View.{members_view, view};
 ghost use Rattle.promql_text.specs.Texts.{Text};
 ghost use Rattle.promql_from_json.specs.FormMisfits.{Form};
@@ -14,6 +14,13 @@ use crate::read_values::expect_text;
 use serde_json::{Map, Value};
 use std::alloc::{AllocError, Global};
 use std::collections::btree_map::Iter;
+
+/// The value of the member of a name, wherever it is.
+pub(crate) fn member_named<'v>(members: &'v Map<String, Value>, name: &str) -> Option<&'v Value>
+    ensures { option_map (λ v. view v.now) result ≡ get_member name.now (members_view members.now.entries) }
+{
+    members.get(name)
+}
 
 /// The members of an object that are left to be read.
 #[derive(Drop)]

@@ -2,11 +2,13 @@
 #![tactic(auto)]
 
 pub use from_error::{Expected, FromJsonError, Misfit};
+pub use measure::form_measure;
 pub use read_nodes::{from_json, from_json_text};
 
 mod fields;
 pub mod from_error;
 pub mod laws;
+mod measure;
 mod read_labels;
 mod read_modifiers;
 mod read_nodes;

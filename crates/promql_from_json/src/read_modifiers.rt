@@ -20,7 +20,7 @@ ghost use Rattle.promql_from_json.specs.MembersLeft.{IsAlone, IsIn, IsRow};
 ghost use Rattle.promql_from_json.specs.declared.from_error.Expected.TheVariants.{Cardinality as CardinalityWord, EmptyList, FunctionName, FunctionPart, List as ListThere};
 ghost use Rattle.promql_from_json.specs.declared.from_error.ReadError.TheVariants.{Memory};
 
-use crate::fields::Fields;
+use crate::fields::{Fields, member_named};
 use crate::from_error::{Expected, ReadError, member};
 use crate::read_labels::read_labels;
 use crate::read_values::{
@@ -108,7 +108,7 @@ fn read_grouped(
     Ok(member!(alloc, name, read_labels(alloc, labels)))
 }
 
-/// A cardinality with labels.
+/// A cardinality with labels: those of `one-to-many` where the object has this member.
 fn read_many(
     alloc: Global,
     members: &Map<String, Value>,
@@ -119,14 +119,15 @@ fn read_many(
         → object (members_view members.now.entries) ≢ spec.cardinality_json card) }
     ensures place { IfErr result (IsIn (one CardinalityWord) (object (members_view members.now.entries))) }
 {
-    let mut fields = Fields::new(members);
-    match fields.next_if("one-to-many")? {
-        Some(labels) => {
-            fields.end(alloc)?;
-            let labels = member!(alloc, "one-to-many", read_labels(alloc, labels));
+    match member_named(members, "one-to-many") {
+        Some(_) => {
+            let labels = read_grouped(alloc, members, "one-to-many")?;
             Ok(VectorMatchCardinality::OneToMany(labels))
         }
-        None => Ok(VectorMatchCardinality::ManyToOne(read_grouped(alloc, members, "many-to-one")?)),
+        None => {
+            let labels = read_grouped(alloc, members, "many-to-one")?;
+            Ok(VectorMatchCardinality::ManyToOne(labels))
+        }
     }
 }
 

@@ -1,10 +1,11 @@
 -- The parts of the measure of a pattern (private: nothing rests on believing it).
-use Rattle.std.specs.Prelude.{ℕ, ◌+◌, ◌*◌, ◌==◌, count_by, length, not, take_while}
+use Rattle.std.specs.Prelude.{ℕ, ◌+◌, ◌==◌, length, not, take_while}
 use Rattle.promql_text.specs.Texts.{Text, code}
+use Rattle.promql_label.specs.PatternMeasure.{class_weight}
 
--- the bytes of the anchored text, and ten more for each backslash
+-- the bytes of the anchored text, and what its classes weigh
 abbrev pub weight : Text → ℕ
-weight v = length v + 6 + 10 * count_by (λ b. b == code "\\") v
+weight v = length v + 6 + class_weight v
 
 -- how many bytes come before the first `{`
 abbrev pub brace_place : Text → ℕ

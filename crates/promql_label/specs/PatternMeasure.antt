@@ -1,6 +1,6 @@
 -- The measure of a pattern (docs/reference/matchers.md, "The measure of a pattern").
-use Rattle.std.specs.Prelude.{ℕ, ◌+◌, ◌*◌, ◌^◌, max, ◌==◌, ◌&&◌, ◌||◌, Bool, if◌then◌else◌, [], ◌∷◌, count_by, drop, length, not, take_while}
-use Rattle.std.specs.Char.{is_ascii_alphanumeric, is_ascii_digit}
+use Rattle.std.specs.Prelude.{ℕ, ◌+◌, ◌*◌, ◌^◌, max, ◌==◌, ◌&&◌, ◌||◌, Bool, false, if◌then◌else◌, [], ◌∷◌, count_by, drop, length, not, take_while}
+use Rattle.std.specs.Char.{is_ascii_alphabetic, is_ascii_alphanumeric, is_ascii_digit}
 use Rattle.std.specs.List.{list_any}
 use Rattle.promql_text.specs.Texts.{Text, code}
 use Rattle.promql_label.specs.PlainPatterns.{digit_of}
@@ -34,6 +34,25 @@ repeats v =
     if list_any (λ b. b == code "#") v then 10 ^ count_by is_ascii_digit (drop (length (take_while (λ b. not (b == code "{")) v)) v)
     else item_repeats 0 v * group_repeats 0 v
 
--- the bytes of the anchored text, and ten more for each backslash, since `\w` is a class of many ranges, so often
+-- flags are letters and hyphens
+abbrev pub is_flag : ℕ → Bool
+is_flag b = is_ascii_alphabetic b || b == code "-"
+
+-- case may be folded: an `i` comes among flags that a `?` begins
+abbrev pub may_fold : (in_flags : Bool) → Text → Bool
+may_fold in_flags [] = false
+may_fold in_flags (b ∷ z) = in_flags && b == code "i" || may_fold (b == code "?" || in_flags && is_flag b) z
+
+-- a byte may begin a class, or be of an operator of classes
+abbrev pub is_set_sign : ℕ → Bool
+is_set_sign b = b == code "[" || b == code "-" || b == code "&" || b == code "~"
+
+-- a backslash begins a class of many ranges, as `\w`; folding its case costs more, and each class around it and each operator fold again
+abbrev pub class_weight : Text → ℕ
+class_weight v =
+    if may_fold false v then (count_by (λ b. b == code "\\") v + 1) * (count_by is_set_sign v + 1) * 20
+    else 10 * count_by (λ b. b == code "\\") v
+
+-- the bytes of the anchored text, and what its classes weigh, so often
 abbrev pub measure : Text → ℕ
-measure v = (length v + 6 + 10 * count_by (λ b. b == code "\\") v) * repeats v
+measure v = (length v + 6 + class_weight v) * repeats v

@@ -1,13 +1,13 @@
 //! The measure of a pattern: docs/reference/matchers.md, "The measure of a pattern".
 
-ghost use Rattle.std.specs.Prelude.{◌≡◌, ◌≤◌, ◌*◌, ◌^◌, count_by, drop, length, min};
+ghost use Rattle.std.specs.Prelude.{◌≡◌, ◌≤◌, ◌*◌, ◌^◌, count_by, drop, false, length, min};
 ghost use Rattle.std.specs.Char.{is_ascii_digit};
 ghost use Rattle.promql_label.specs.MeasureParts as parts;
 ghost use Rattle.promql_label.specs.PatternMeasure as spec;
 
-/// How large the pattern of a value can get where it is compiled, by its text alone: the bytes of the anchored text, and ten more for
-/// each backslash, each as often as the counts of the pattern can repeat it. `usize::MAX` stands for that and more. It is an estimate,
-/// tried on many patterns: nothing proves that `regex` needs no more.
+/// How large the pattern of a value can get where it is compiled, by its text alone: the bytes of the anchored text, and more for its
+/// classes, where case may be folded much more, each as often as the counts of the pattern can repeat it. `usize::MAX` stands for that
+/// and more. It is an estimate, tried on many patterns: nothing proves that `regex` needs no more.
 ///
 /// It takes the time to read the value, and allocates nothing.
 pub fn pattern_measure(value: &str) -> usize
@@ -32,11 +32,53 @@ fn repeats(value: &[u8]) -> usize
 fn weight(value: &[u8]) -> usize
     ensures { result ≡ min (parts.weight value.now) usize.MAX }
 {
-    let escapes = value.iter().filter(|b| **b == b'\\').count();
-    escapes
-        .saturating_mul(10)
+    class_weight(value)
         .saturating_add(value.len())
         .saturating_add(6)
+}
+
+/// What the classes of a value weigh beside its bytes: ten for each backslash. Where case may be folded it is 20 for each pair of a
+/// backslash and a sign of sets, with one more of either.
+fn class_weight(value: &[u8]) -> usize
+    ensures { result ≡ min (spec.class_weight value.now) usize.MAX }
+{
+    let escapes = value.iter().filter(|b| **b == b'\\').count();
+    if may_fold(value) {
+        let signs = value.iter().filter(|b| is_set_sign(**b)).count();
+        (escapes + 1).saturating_mul(signs + 1).saturating_mul(20)
+    } else {
+        escapes.saturating_mul(10)
+    }
+}
+
+/// Whether a byte may begin a class, or be of an operator of classes.
+fn is_set_sign(b: u8) -> bool
+    ensures { result ≡ spec.is_set_sign b }
+{
+    b == b'[' || b == b'-' || b == b'&' || b == b'~'
+}
+
+/// Whether a value may ask to fold case: an `i` after a `?`, with letters and hyphens alone between.
+fn may_fold(value: &[u8]) -> bool
+    ensures { result ≡ spec.may_fold false value.now }
+{
+    let mut in_flags = false;
+    let mut rest = value;
+    while let [b, after @ ..] = rest {
+        if in_flags && *b == b'i' {
+            return true;
+        }
+        in_flags = *b == b'?' || in_flags && is_flag(*b);
+        rest = after;
+    }
+    false
+}
+
+/// Whether a byte may be among flags.
+fn is_flag(b: u8) -> bool
+    ensures { result ≡ spec.is_flag b }
+{
+    b.is_ascii_alphabetic() || b == b'-'
 }
 
 /// Ten for each digit after the first `{`.

@@ -10,6 +10,7 @@ mod from_json;
 mod hashes;
 mod json;
 mod layout;
+mod measures;
 mod memory;
 mod options;
 mod parts;

@@ -24,6 +24,9 @@ quantile without () (0.9, rate(foo[5m]))
 a >= bool b
 a > bool on (x) group_left (y) fill_left (0) b
 a and ignoring (x) b or c unless d
+a + ignoring () group_left () b
+a * ignoring () group_right () b
+a / on () group_right (x, y) fill (1) b
 label_replace(foo, "a", "$1", "b", "(.*)")
 time() ^ atan2_total * pi() atan2 1"#;
 
@@ -104,5 +107,82 @@ fn errors_have_the_place(rt: HostRuntime) {
     for row in ERRORS.split('\n') {
         let (text, want) = columns(row);
         prints(&rt, error_of(rt.alloc(), text), want);
+    }
+}
+
+/// What comes before the cardinality in the form of a binary expression, and what comes after it.
+const AROUND_CARDINALITY: [&str; 2] = [
+    r#"{"bool":false,"lhs":{"type":"stringLiteral","val":"a"},"matching":{"card":"#,
+    r#","fillValues":{"lhs":null,"rhs":null},"include":[],"labels":[],"on":false},"op":"+","rhs":{"type":"stringLiteral","val":"b"},"type":"binaryExpr"}"#,
+];
+
+/// Cardinalities with a fault or two, and what the error says.
+const CARDINALITIES: &str = r#"null => $.matching.card: a cardinality
+1 => $.matching.card: a cardinality
+[] => $.matching.card: a cardinality
+"one-to-many" => $.matching.card: a cardinality
+{} => $.matching.card.many-to-one: a member that is missing
+{"many-to-one":1} => $.matching.card.many-to-one: a list
+{"one-to-many":1} => $.matching.card.one-to-many: a list
+{"many-to-one":[1]} => $.matching.card.many-to-one[0]: a text
+{"one-to-many":[1]} => $.matching.card.one-to-many[0]: a text
+{"many-to-one":["a",null,1]} => $.matching.card.many-to-one[1]: a text
+{"one-to-many":["a",null,1]} => $.matching.card.one-to-many[1]: a text
+{"many-to-one":[1],"z":0} => $.matching.card.z: no such member
+{"one-to-many":[1],"z":0} => $.matching.card.z: no such member
+{"a":0,"many-to-one":[1]} => $.matching.card.a: no such member
+{"a":0,"one-to-many":[1]} => $.matching.card.a: no such member
+{"o":0,"one-to-many":[1]} => $.matching.card.o: no such member
+{"many-to-one":[1],"one-to-many":[1]} => $.matching.card.many-to-one: no such member
+{"z":0} => $.matching.card.many-to-one: a member that is missing"#;
+
+fn cardinality_error(alloc: Global, cardinality: &str) -> Result<String, AllocError> {
+    let [before, after] = AROUND_CARDINALITY;
+    let form = format!(in alloc; "{before}{cardinality}{after}")?;
+    error_of(alloc, form.as_str())
+}
+
+#[test]
+fn cardinalities_have_their_own_faults(rt: HostRuntime) {
+    for row in CARDINALITIES.split('\n') {
+        let (cardinality, want) = columns(row);
+        prints(&rt, cardinality_error(rt.alloc(), cardinality), want);
+    }
+}
+
+/// Lists of lines: what is before the items, what each has before and after its number, what is between them, and what is after them.
+const LISTS: [[&str; 5]; 4] = [
+    ["sum by (", "l", "", ", ", ") (foo)"],
+    ["{", "l", "=~\"x\"", ",", "}"],
+    ["{a=\"1\" or ", "l", "=\"x\"", " or ", "}"],
+    ["label_join(foo, \"a\", \"b\", ", "\"l", "\"", ", ", ")"],
+];
+
+/// How many items a list has.
+const SIZES: [u32; 2] = [21, 1_000];
+
+/// The line of a list with so many items, which are in byte order.
+fn list_line(alloc: Global, list: &[&str; 5], size: u32) -> Result<String, AllocError> {
+    let [start, before, after, between, end] = *list;
+    let mut line = format!(in alloc; "{start}{before}1000{after}")?;
+    for number in 1..size {
+        let item = format!(in alloc; "{between}{before}{}{after}", 1_000 + number)?;
+        line.push_str(item.as_str())?;
+    }
+    line.push_str(end)?;
+    Ok(line)
+}
+
+fn is_list_form(alloc: Global, list: &[&str; 5], size: u32) -> Result<bool, Failed> {
+    let line = list_line(alloc, list, size)?;
+    is_form(alloc, line.as_str())
+}
+
+#[test]
+fn forms_of_long_lists_are_read(rt: HostRuntime) {
+    for list in &LISTS {
+        for size in SIZES {
+            is_so(&rt, is_list_form(rt.alloc(), list, size), list[0]);
+        }
     }
 }

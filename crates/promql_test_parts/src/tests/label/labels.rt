@@ -150,3 +150,26 @@ fn labels_are_appended_and_copied(rt: HostRuntime) {
         answers(&rt, is_foo_and_bar(alloc, others), false, "another");
     }
 }
+
+/// So many labels, each with its number.
+fn numbered(alloc: Global, count: usize) -> Result<Labels, AllocError> {
+    let mut names = Vec::with_capacity(alloc, count)?;
+    for number in 0..count {
+        names.push(format!(in alloc; "l{number}")?)?;
+    }
+    Ok(Labels { labels: names })
+}
+
+/// Whether two lists of so many numbered labels have them all in common.
+fn has_all_in_common(alloc: Global, count: usize) -> Result<bool, AllocError> {
+    let labels = numbered(alloc, count)?;
+    let others = numbered(alloc, count)?;
+    let both = labels.intersect(alloc, &others)?;
+    Ok(labels.is_joint(&others) && both == labels)
+}
+
+#[test]
+fn many_labels_have_all_in_common(rt: HostRuntime) {
+    let found = has_all_in_common(rt.alloc(), 66_000);
+    answers(&rt, found, true, "66,000 labels");
+}

@@ -3,8 +3,8 @@
 use crate::tests::holds;
 use promql_label::pattern_measure;
 
-/// Patterns, and their measures: the bytes of the anchored text, ten more for each backslash, and how often a part can be repeated.
-const MEASURED: [(&str, usize, usize); 32] = [
+/// Patterns, and their measures: the bytes of the anchored text with what its classes weigh, and how often a part can be repeated.
+const MEASURED: [(&str, usize, usize); 41] = [
     ("", 6, 1),
     ("prod|staging", 18, 1),
     (r"\w{720}", 23, 721),
@@ -41,6 +41,15 @@ const MEASURED: [(&str, usize, usize); 32] = [
     (r"#2024-\d+", 25, 1),
     (r"#\d{4}-\d{4}", 38, 100),
     ("é{2}", 11, 3),
+    (r"(?i)\pL", 53, 1),
+    (r"(?i:\pL)", 54, 1),
+    (r"(?i)[\pL--a]", 178, 1),
+    (r"[\pL--a]", 24, 1),
+    ("(?i)abc", 33, 1),
+    (r"(?si)\w{720}", 58, 721),
+    (r"https?-in\d", 97, 1),
+    (r"https?://in\d", 29, 1),
+    (r"(?s)i\w", 23, 1),
 ];
 
 /// Counts of which no number is too great.
