@@ -11,17 +11,7 @@ use Rattle.promql_grammar.specs.PartTokens.{IsGrouping, IsClause, yield_flag, yi
 use Rattle.promql_grammar.specs.GrammarParts as part
 use Rattle.promql_grammar.specs.Grammar.{Derivation, Arguments, IsWellFormed, AreWellFormed, yield, yield_arguments, openness, precedence, FitsLeft, FitsRight, FitsUnary, IsBase, FitsMatching, OpensNoParen}
 use Rattle.promql_grammar.specs.Grammar as form
-
--- tokens of the same kinds
-abbrev pub IsAlike : Symbol → Symbol → Type 0
-IsAlike (punct k) (punct j) = k ≡ j
-IsAlike (word k text) (word j other) = k ≡ j
-IsAlike _ _ = ⊥
-
-abbrev pub AreAlike : List Symbol → List Symbol → Type 0
-AreAlike [] [] = Unit {0}
-AreAlike (x ∷ xs) (y ∷ ys) = IsAlike x y × AreAlike xs ys
-AreAlike _ _ = ⊥
+use Rattle.promql_span.specs.TokensBefore.{AreAlike}
 
 pub same_alike : (xs : List Symbol) → AreAlike xs xs
 same_alike [] = tt

@@ -4,6 +4,7 @@ pub mod PlacedTokens
 pub mod TokensPlaced
 pub mod Snippets
 pub mod SpanSteps
+pub mod Targets
 pub mod TokenSpans
 pub mod TokensBefore
 pub mod TokensLeft

@@ -1,12 +1,11 @@
 //! What may come after the first tokens of a text: docs/reference/grammar.md, "What is expected".
 
-ghost use Rattle.std.specs.Prelude.{◌≡◌, ◌++◌, ◌∷◌, ℕ, List, Contains, IfOk, IfSome, OnOk, false, true, filter, nat_lt};
+ghost use Rattle.std.specs.Prelude.{◌≡◌, ℕ, List, Contains, IfOk, IfSome, OnOk, false, true};
 ghost use Rattle.promql_grammar.specs.Misfits.{AreMisfits};
 ghost use Rattle.promql_grammar.specs.Symbols.{Symbol, token_kind};
 ghost use Rattle.promql_grammar.specs.SymbolsLeft.{symbols_left};
 ghost use Rattle.promql_span.specs.ExpectedTokens.{AreExpected, symbols_before};
-ghost use Rattle.promql_span.specs.PlacedTokens.{placed_tokens};
-ghost use Rattle.promql_span.specs.TokensBefore.{GoesOn, IsListed, IsQuery, symbols_of_text};
+ghost use Rattle.promql_span.specs.TokensBefore.{AreAlike, GoesOn, IsListed, IsQuery, symbols_of_text};
 
 use crate::placed::PlacedTokens;
 use promql_ast::drop_expr;
@@ -14,7 +13,8 @@ use promql_grammar::tokens::Lookahead;
 use promql_grammar::{ReadError, TokenKind, Tokens, token_kind};
 use promql_syntax::grammar::expression::parse_query;
 use promql_syntax::parser::MAX_DEPTH;
-use promql_token::TokenId;
+use promql_token::cursor::Cursor;
+use promql_token::ids::{T_IDENTIFIER, T_STRING, TokenId};
 use std::alloc::{AllocError, Global};
 
 /// What may come after the first tokens of a text.
@@ -27,7 +27,7 @@ pub struct ExpectedTokens {
 }
 
 /// What may come after the tokens that begin before the byte `at`: of a text that is rejected, the start of the token that
-/// does not fit. The parser reads these tokens once for each kind.
+/// does not fit. The parser reads these tokens once for each kind, with blank strings, so no reading compiles a pattern.
 ///
 /// Where the tokens before `at` would be others without those after them, every kind is expected.
 ///
@@ -37,36 +37,50 @@ pub struct ExpectedTokens {
 pub fn expected_tokens(alloc: Global, text: &str, at: usize) -> Result<ExpectedTokens, AllocError>
     ensures { IfOk result (λ e. AreExpected (symbols_before text.now at) e.kinds.items e.ends) }
 {
-    let before = text_before(text, at);
+    let blank = blank_before(alloc, text, at)?;
+    let blank = blank.as_str();
+    let before = has_same_kinds(blank, text, at).then_some(blank);
     let kinds = kinds_after(alloc, before)?;
     let ends = may_end(alloc, before)?;
     Ok(ExpectedTokens { kinds, ends })
 }
 
-/// The text before a byte, where its tokens are those that begin there.
-fn text_before(text: &str, at: usize) -> Option<&str>
-    ensures { IfSome result (λ before. symbols_of_text before.now ≡ symbols_before text.now at) }
-{
-    let before = &text[..text.floor_char_boundary(at)];
-    if has_same_tokens(before, text, at) {
-        Some(before)
-    } else {
-        None
+/// The tokens of a text that begin before the byte `at`, with blank strings and a space after each.
+fn blank_before(alloc: Global, text: &str, at: usize) -> Result<String, AllocError> {
+    let mut blank = String::new(alloc);
+    let mut tokens = Cursor::new(text);
+    for place in PlacedTokens::new(text) {
+        if let Some((id, token)) = tokens.next()
+            && place.start < at
+        {
+            blank.push_str(blank_text(id, token))?;
+            blank.push(' ')?;
+        }
+    }
+    Ok(blank)
+}
+
+/// The text of a token in a blank text: a string is blank, and a name is one that is no keyword, whatever comes after it.
+fn blank_text(id: TokenId, token: &str) -> &str {
+    match id {
+        T_STRING => BLANK_STRING,
+        T_IDENTIFIER => "a",
+        _ => token,
     }
 }
 
-/// Whether the tokens of `before` are those of the text that begin before the byte `at`, at the same places.
-fn has_same_tokens(before: &str, text: &str, at: usize) -> bool
-    ensures { result ≡ true → placed_tokens before.now
-        ≡ filter (λ x. nat_lt x.start at) (placed_tokens text.now) }
+/// A string that has no value, since a line feed in quotes has to be escaped. Nothing is built of it, no pattern either.
+const BLANK_STRING: &str = "'\n'";
+
+/// Whether the tokens of `before` are of the same kinds as those of the text that begin before the byte `at`.
+fn has_same_kinds(before: &str, text: &str, at: usize) -> bool
+    ensures { result ≡ true → AreAlike (symbols_before text.now at) (symbols_of_text before.now) }
 {
     let mut rest = PlacedTokens::new(before);
     for token in PlacedTokens::new(text) {
         if token.start < at {
             match rest.next() {
-                Some(same)
-                    if same.id == token.id && same.start == token.start && same.len == token.len =>
-                    {}
+                Some(same) if same.id == token.id => {}
                 _ => return false,
             }
         }
@@ -76,7 +90,7 @@ fn has_same_tokens(before: &str, text: &str, at: usize) -> bool
 
 /// The kinds of tokens with which those of a text go on; every kind where there is no text.
 fn kinds_after(alloc: Global, before: Option<&str>) -> Result<Vec<TokenKind>, AllocError>
-    ensures { IfOk result (λ kinds. (front : List Symbol) → IfSome before.entry (λ b. symbols_of_text b.now ≡ front)
+    ensures { IfOk result (λ kinds. (front : List Symbol) → IfSome before.entry (λ b. AreAlike front (symbols_of_text b.now))
         → (id : ℕ) → IsListed front kinds.items (token_kind id)) }
 {
     let mut kinds = Vec::new(alloc);
@@ -100,7 +114,7 @@ fn push_expected(
     kind: TokenKind,
     kinds: &mut Vec<TokenKind>,
 ) -> Result<(), AllocError>
-    ensures lists { OnOk result ((front : List Symbol) → IfSome before.entry (λ b. symbols_of_text b.now ≡ front)
+    ensures lists { OnOk result ((front : List Symbol) → IfSome before.entry (λ b. AreAlike front (symbols_of_text b.now))
         → IsListed front kinds.new.items kind) }
     ensures keeps { OnOk result ((k : TokenKind) → Contains kinds.old.items k → Contains kinds.new.items k) }
 {
@@ -112,7 +126,7 @@ fn push_expected(
 
 /// Whether the tokens of a text may go on with one of this kind.
 fn may_go_on(alloc: Global, before: Option<&str>, kind: TokenKind) -> Result<bool, AllocError>
-    ensures { IfOk result (λ goes. goes ≡ false → (front : List Symbol) → IfSome before.entry (λ b. symbols_of_text b.now ≡ front)
+    ensures { IfOk result (λ goes. goes ≡ false → (front : List Symbol) → IfSome before.entry (λ b. AreAlike front (symbols_of_text b.now))
         → GoesOn front kind → ⊥) }
 {
     match before {
@@ -123,7 +137,7 @@ fn may_go_on(alloc: Global, before: Option<&str>, kind: TokenKind) -> Result<boo
 
 /// Whether the parser goes past the tokens of a text and one more of this kind.
 fn goes_on(alloc: Global, text: &str, kind: TokenKind) -> Result<bool, AllocError>
-    ensures { IfOk result (λ goes. goes ≡ false → (front : List Symbol) → symbols_of_text text.now ≡ front
+    ensures { IfOk result (λ goes. goes ≡ false → (front : List Symbol) → AreAlike front (symbols_of_text text.now)
         → GoesOn front kind → ⊥) }
 {
     crate::laws::tokens_are_placed();
@@ -134,7 +148,7 @@ fn goes_on(alloc: Global, text: &str, kind: TokenKind) -> Result<bool, AllocErro
 
 /// Whether a text may end with these tokens.
 fn may_end(alloc: Global, before: Option<&str>) -> Result<bool, AllocError>
-    ensures { IfOk result (λ ends. ends ≡ false → (front : List Symbol) → IfSome before.entry (λ b. symbols_of_text b.now ≡ front)
+    ensures { IfOk result (λ ends. ends ≡ false → (front : List Symbol) → IfSome before.entry (λ b. AreAlike front (symbols_of_text b.now))
         → IsQuery front → ⊥) }
 {
     match before {
@@ -145,7 +159,7 @@ fn may_end(alloc: Global, before: Option<&str>) -> Result<bool, AllocError>
 
 /// Whether the tokens of a text, up to its end or a lexical fault, are a query.
 fn is_query(alloc: Global, text: &str) -> Result<bool, AllocError>
-    ensures { IfOk result (λ ends. ends ≡ false → (front : List Symbol) → symbols_of_text text.now ≡ front
+    ensures { IfOk result (λ ends. ends ≡ false → (front : List Symbol) → AreAlike front (symbols_of_text text.now)
         → IsQuery front → ⊥) }
 {
     crate::laws::tokens_are_placed();

@@ -14,6 +14,7 @@ mod placed;
 mod places;
 mod snippets;
 mod span;
+mod target;
 pub mod unexpected;
 mod visibility;
 
@@ -23,4 +24,5 @@ pub use placed::PlacedTokens;
 pub use places::{argument_span, char_span, end_of_text, span_between, token_left};
 pub use snippets::snippet;
 pub use span::Span;
+pub use target::Target;
 pub use visibility::visible;

@@ -6,10 +6,12 @@ ghost use Rattle.std.specs.Prelude.{◌<◌, ◌≤◌};
 ghost use Rattle.promql_span.specs.MeasuredTokens.{AreMeasured};
 ghost use Rattle.promql_span.specs.PlacedTokens.{first_span, placed_tokens};
 ghost use Rattle.promql_span.specs.QueryLimits as spec;
+ghost use Rattle.promql_span.specs.Targets.{for_rules};
 
 use crate::placed::PlacedTokens;
 use crate::places::{end_of_text, span_of};
 use crate::span::Span;
+use crate::target::Target;
 use promql_label::pattern_measure;
 use promql_text::{QuoteError, unquote_string};
 use promql_token::TokenId;
@@ -27,8 +29,7 @@ pub const MAX_PATTERN_SIZE: usize = 16_000;
 /// The most bytes of what is printed of a query, unless something else is asked for: 4 MiB.
 pub const MAX_OUTPUT: usize = 4_194_304;
 
-/// How long a query may be, how large its patterns may be together, and how long what is printed of it may be.
-#[repr(C)]
+/// How long a query may be, how large its patterns may be together, how long what is printed of it may be, and what reads that.
 #[derive(Clone, Copy, Debug, PartialEq, Eq)]
 pub struct Limits {
     /// The most bytes.
@@ -37,20 +38,41 @@ pub struct Limits {
     pub max_pattern_size: usize,
     /// The most bytes of its text in a format.
     pub max_output: usize,
+    /// What reads its text with a matcher in its selectors, and its layout.
+    pub target: Target,
 }
 
 impl Default for Limits {
     ghost use Rattle.std.specs.Prelude.{◌≡◌};
     ghost use Rattle.promql_span.specs.declared.limits.TheConstants.{MAX_LEN, MAX_OUTPUT, MAX_PATTERN_SIZE};
+    ghost use Rattle.promql_span.specs.declared.target.Target.TheVariants.{Prometheus};
 
-    ghost is_default = { λ l. l ≡ record { max_len = MAX_LEN; max_pattern_size = MAX_PATTERN_SIZE; max_output = MAX_OUTPUT } };
+    ghost is_default = { λ l. l ≡ record {
+      max_len = MAX_LEN;
+      max_pattern_size = MAX_PATTERN_SIZE;
+      max_output = MAX_OUTPUT;
+      target = Prometheus;
+    } };
 
-    /// `MAX_LEN`, `MAX_PATTERN_SIZE` and `MAX_OUTPUT`.
+    /// `MAX_LEN`, `MAX_PATTERN_SIZE` and `MAX_OUTPUT`, for a Prometheus.
     fn default() -> Limits {
         Limits {
             max_len: MAX_LEN,
             max_pattern_size: MAX_PATTERN_SIZE,
             max_output: MAX_OUTPUT,
+            target: Target::Prometheus,
+        }
+    }
+}
+
+impl Limits {
+    /// The same where nothing but these rules reads what is printed.
+    pub fn for_rules(&self) -> Limits
+        ensures { result ≡ for_rules self.now }
+    {
+        Limits {
+            target: Target::Rules,
+            ..*self
         }
     }
 }
