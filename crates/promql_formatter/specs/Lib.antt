@@ -1,3 +1,4 @@
 pub mod Comments
 pub mod CommentScans
 pub mod Formats
+pub mod Options

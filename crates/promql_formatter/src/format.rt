@@ -5,16 +5,19 @@ ghost use Rattle.promql_ast.specs.Normal.{normal};
 ghost use Rattle.promql_ast.specs.View.{tree_of};
 ghost use Rattle.promql_span.specs.ErrorPlaces.{IsPlaceOf};
 ghost use Rattle.promql_span.specs.declared.diagnosis.Diagnosis.{Diagnosis};
+ghost use Rattle.promql_span.specs.declared.limits.LongOutput.{LongOutput};
 ghost use Rattle.promql_syntax.specs.ParseAnswers.{IsAnswerTo, plain_error_of};
 ghost use Rattle.promql_formatter.specs.Comments.{comment_lines};
-ghost use Rattle.promql_formatter.specs.Formats.{IsFormatOf, IsKept, IsQuery, IsRejected};
+ghost use Rattle.promql_formatter.specs.Formats.{IsFormatOf, IsKept, IsLayoutOf, IsQuery, IsRejected};
+ghost use Rattle.promql_formatter.specs.Options.{IsTooLong, IsTooWide};
+ghost use Rattle.promql_formatter.specs.declared.options.WideOption.{WideOption};
 ghost use Rattle.promql_formatter.specs.declared.format_error.FormatError.TheVariants as errors;
 
 use crate::comments::comment_lines;
 use crate::format_error::FormatError;
 use crate::layout::laid_out;
 use crate::options::FormatOptions;
-use promql_ast::Expr;
+use promql_ast::{Expr, drop_expr};
 use promql_span::diagnosis::{Diagnosis, diagnose};
 use promql_syntax::parser::{ParseError, parse};
 use std::alloc::{AllocError, Global};
@@ -26,26 +29,54 @@ use std::alloc::{AllocError, Global};
 ///
 /// # Errors
 ///
-/// `Rejected` exactly where the text is no query, `Unfaithful` where the layout does not read back, `Memory` where an
-/// allocation failed.
+/// `Rejected` exactly where the text is no query; else `TooWide` where an option asks for more than it may, `TooLong` where the
+/// layout has more bytes than it may have, `Unfaithful` where it does not read back. `Memory` where an allocation failed.
 pub fn format_query(
     alloc: Global,
     text: &str,
     options: &FormatOptions,
 ) -> Result<String, FormatError>
-    ensures formats { IfOk result (λ out. IsFormatOf options.now.keep_spelling text.now (string_bytes out)) }
+    ensures formats { IfOk result (λ out. IsLayoutOf options.now text.now (string_bytes out)) }
     ensures rejected { (d : Diagnosis) → IsErrOf result (errors.Rejected d) → IsRejected text.now d }
     ensures unfaithful { IsErrOf result errors.Unfaithful → IsQuery text.now }
+    ensures too_wide { (w : WideOption) → IsErrOf result (errors.TooWide w) → IsQuery text.now × IsTooWide options.now w }
+    ensures too_long { (long : LongOutput) → IsErrOf result (errors.TooLong long) → IsQuery text.now × IsTooLong options.now long }
 {
-    let expr = match diagnose(alloc, text) {
-        Ok(expr) => expr,
-        Err(diagnosis) => return Err(rejected(text, diagnosis)),
-    };
+    match diagnose(alloc, text) {
+        Ok(expr) => {
+            let layout = format_tree(alloc, text, &expr, options);
+            drop_expr(expr);
+            layout
+        }
+        Err(diagnosis) => Err(rejected(text, diagnosis)),
+    }
+}
+
+/// The same of a query that was read, whose tree is given.
+///
+/// # Errors
+///
+/// Those of `format_query` but for `Rejected`.
+pub fn format_tree(
+    alloc: Global,
+    text: &str,
+    expr: &Expr,
+    options: &FormatOptions,
+) -> Result<String, FormatError>
+    requires { IsAnswerTo text.now (Ok (tree_of expr.now)) }
+    ensures formats { IfOk result (λ out. IsLayoutOf options.now text.now (string_bytes out)) }
+    ensures rejected { (d : Diagnosis) → ¬ IsErrOf result (errors.Rejected d) }
+    ensures too_wide { (w : WideOption) → IsErrOf result (errors.TooWide w) → IsTooWide options.now w }
+    ensures too_long { (long : LongOutput) → IsErrOf result (errors.TooLong long) → IsTooLong options.now long }
+{
+    if let Err(wide) = options.check() {
+        return Err(FormatError::TooWide(wide));
+    }
     let bytes = laid_out(alloc, text, options)?;
     let Ok(out) = String::from_utf8(bytes) else {
         return Err(FormatError::Unfaithful);
     };
-    if is_format(alloc, text, &expr, &out, options.keep_spelling)? {
+    if is_format(alloc, text, expr, &out, options.keep_spelling)? {
         Ok(out)
     } else {
         Err(FormatError::Unfaithful)
@@ -57,7 +88,9 @@ fn rejected(text: &str, diagnosis: Diagnosis) -> FormatError
     requires answer { IsAnswerTo text.now (Err (plain_error_of diagnosis.error)) }
     requires place { IsPlaceOf text.now diagnosis.error diagnosis.span }
     ensures rejected { (d : Diagnosis) → result ≡ errors.Rejected d → IsRejected text.now d }
-    ensures other { result ≢ errors.Unfaithful }
+    ensures unfaithful { result ≢ errors.Unfaithful }
+    ensures too_wide { (w : WideOption) → result ≢ errors.TooWide w }
+    ensures too_long { (long : LongOutput) → result ≢ errors.TooLong long }
 {
     match diagnosis.error {
         ParseError::Memory => FormatError::Memory,

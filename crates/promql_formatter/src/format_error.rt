@@ -1,6 +1,8 @@
 //! Why a text has no layout.
 
+use crate::options::WideOption;
 use promql_span::diagnosis::Diagnosis;
+use promql_span::limits::LongOutput;
 use std::alloc::AllocError;
 use thiserror::Error;
 
@@ -16,6 +18,12 @@ pub enum FormatError {
     /// The layout that was made is not given out, since it does not read back with the same tree and comments.
     #[error("the formatted query does not read back")]
     Unfaithful,
+    /// An option asks for lines or indentations that are too wide.
+    #[error("{0}")]
+    TooWide(WideOption),
+    /// The layout has more bytes than it may have.
+    #[error("{0}")]
+    TooLong(LongOutput),
 }
 
 impl From<AllocError> for FormatError {

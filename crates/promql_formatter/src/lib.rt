@@ -22,6 +22,6 @@ mod spelling;
 mod structure;
 mod writer;
 
-pub use format::format_query;
+pub use format::{format_query, format_tree};
 pub use format_error::FormatError;
 pub use options::FormatOptions;

@@ -1,10 +1,15 @@
 //! Writes items into lines: docs/reference/formatting.md, "Lines".
 
+ghost use Rattle.std.specs.Prelude.{◌≤◌, IfErr, IfOk, length};
+ghost use Rattle.promql_formatter.specs.Options.{HasNoLayout};
+
 use crate::comments::between;
 use crate::fits::{Until, fits, has_lines};
+use crate::format_error::FormatError;
 use crate::items::{Item, Text};
 use crate::options::FormatOptions;
 use crate::piece::Break;
+use promql_span::limits::LongOutput;
 use std::alloc::{AllocError, Global};
 
 /// A group that is open.
@@ -23,7 +28,10 @@ struct Frame {
 /// What is written so far.
 #[derive(Drop)]
 struct Writer {
+    /// The beginning of the layout: all of it, unless it is longer than it may be.
     out: Vec<u8>,
+    /// How many bytes the layout has.
+    len: usize,
     frames: Vec<Frame>,
     options: FormatOptions,
     /// How many characters the line has.
@@ -37,14 +45,22 @@ struct Writer {
 }
 
 /// Writes the items, whose texts are in these bytes.
+///
+/// # Errors
+///
+/// `TooLong` where they come to more bytes than a layout may have, `Memory` where an allocation failed.
 pub(crate) fn written(
     alloc: Global,
     bytes: &[u8],
     items: &[Item],
     options: &FormatOptions,
-) -> Result<Vec<u8>, AllocError> {
+) -> Result<Vec<u8>, FormatError>
+    ensures within { IfOk result (λ out. length out.items ≤ options.now.max_output) }
+    ensures err { IfErr result (HasNoLayout options.now) }
+{
     let mut writer = Writer {
-        out: Vec::with_capacity(alloc, bytes.len())?,
+        out: Vec::with_capacity(alloc, bytes.len().min(options.max_output))?,
+        len: 0,
         frames: Vec::new(alloc),
         options: *options,
         column: 0,
@@ -57,10 +73,35 @@ pub(crate) fn written(
         after = after.saturating_add(1);
         writer.write(bytes, *item, items.get(after..).unwrap_or(&[]))?;
     }
+    let len = writer.len.max(writer.out.len());
+    let most = options.max_output;
+    if len > most {
+        return Err(FormatError::TooLong(LongOutput { len, most }));
+    }
     Ok(writer.out)
 }
 
 impl Writer {
+    /// Adds bytes to the layout, unless it is longer than it may be.
+    fn push(&mut self, text: &[u8]) -> Result<(), AllocError> {
+        self.len = self.len.saturating_add(text.len());
+        if self.len <= self.options.max_output {
+            self.out.extend_from_slice(text)?;
+        }
+        Ok(())
+    }
+
+    /// Adds so many spaces in the same way.
+    fn push_spaces(&mut self, count: usize) -> Result<(), AllocError> {
+        self.len = self.len.saturating_add(count);
+        if self.len <= self.options.max_output {
+            for _ in 0..count {
+                self.out.push(b' ')?;
+            }
+        }
+        Ok(())
+    }
+
     /// Writes an item, before the others.
     fn write(&mut self, bytes: &[u8], item: Item, rest: &[Item]) -> Result<(), AllocError> {
         match item {
@@ -97,7 +138,7 @@ impl Writer {
     }
 
     fn write_bytes(&mut self, text: &[u8], width: usize) -> Result<(), AllocError> {
-        self.out.extend_from_slice(text)?;
+        self.push(text)?;
         self.column = self.column.saturating_add(width);
         self.is_fresh = false;
         Ok(())
@@ -106,10 +147,8 @@ impl Writer {
     /// Begins a line. At most half of the width is indentation.
     fn write_line(&mut self, indent: usize) -> Result<(), AllocError> {
         let indent = indent.min(self.options.width / 2);
-        self.out.push(b'\n')?;
-        for _ in 0..indent {
-            self.out.push(b' ')?;
-        }
+        self.push(b"\n")?;
+        self.push_spaces(indent)?;
         self.column = indent;
         self.line_indent = indent;
         self.is_fresh = true;
@@ -152,7 +191,7 @@ impl Writer {
             Break::Fill => self.is_ended || !fits(rest, self.room(), false, Until::Break),
             Break::Lines | Break::Close => true,
         };
-        if !is_due || !frame.is_broken || self.out.is_empty() || (self.is_fresh && !self.is_ended) {
+        if !is_due || !frame.is_broken || self.len == 0 || (self.is_fresh && !self.is_ended) {
             return Ok(());
         }
         match place {
