@@ -1,5 +1,5 @@
 -- What each call makes of a query (docs/guide/bindings.md, "Calls").
-use Rattle.std.specs.Prelude.{◌≡◌, ◌⊎◌, Bool, if◌then◌else◌, [], Option, Some, None, Result, Err}
+use Rattle.std.specs.Prelude.{◌≡◌, ◌⊎◌, ℕ, Bool, if◌then◌else◌, [], Option, Some, None, Result, Err}
 use Rattle.std.specs.Str.{IsUtf8}
 use Rattle.serde_json.specs.Written.{compact_text}
 use Rattle.promql_text.specs.Texts.{Text}
@@ -13,6 +13,7 @@ use Rattle.promql_lines.specs.Batch.{error_value}
 use Rattle.promql_lines.specs.Telling.{IsToldWith}
 use Rattle.promql_lines.specs.declared.rejected_query.RejectedQuery.{RejectedQuery}
 use Rattle.promql_lines.specs.EnforcedLines.{IsEnforcedLine}
+use Rattle.promql_formatter.specs.declared.options.FormatOptions.{FormatOptions}
 use Rattle.promql_lines.specs.FormattedQueries.{IsFormattedQuery}
 use Rattle.promql_lines.specs.QueryErrors.{Gives, IsOutput, OfTree, Prints, Then}
 use Rattle.promql_lines.specs.RenamedLines.{IsRenamedLine, renaming}
@@ -71,9 +72,10 @@ abbrev pub IsSnippetOf : Text → Span → Result Text QueryError → Type 0
 IsSnippetOf query span = OfTexts (IsUtf8 query) (Gives (λ text. text ≡ marked_line query span) (λ e. ⊥))
 
 -- "print a tree": the text of the tree of this form
-abbrev pub IsTreePrintOf : Limits → Text → Bool → Option Format → Result Text QueryError → Type 0
-IsTreePrintOf limits form parens = OfMode (λ format. OfTexts (IsUtf8 form) (Then (PrintsForm limits format parens form) (IsOutput limits)))
+abbrev pub IsTreePrintOf : Limits → ℕ → Text → Bool → Option Format → Result Text QueryError → Type 0
+IsTreePrintOf limits max_tree form parens =
+    OfMode (λ format. OfTexts (IsUtf8 form) (Then (PrintsForm limits max_tree format parens form) (IsOutput limits)))
 
--- "format": a layout for people, which has the query's tree and its comments
-abbrev pub IsFormattedOf : Limits → Bool → Text → Result Text QueryError → Type 0
-IsFormattedOf limits keeps query = OfTexts (IsUtf8 query) (Then (IsFormattedQuery limits keeps query) (IsOutput limits))
+-- "format": a layout for people, which has the query's tree and its comments, and is within the limits of an output
+abbrev pub IsFormattedOf : Limits → FormatOptions → Text → Result Text QueryError → Type 0
+IsFormattedOf limits options query = OfTexts (IsUtf8 query) (IsFormattedQuery limits options query)

@@ -1,4 +1,5 @@
 pub mod CallResults
+pub mod CallLimits
 pub mod Calls
 pub mod CallSteps
 pub mod CollectedJson

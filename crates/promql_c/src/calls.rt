@@ -144,11 +144,12 @@ pub fn snippet(
 }
 
 /// Prints the tree whose JSON form is given (docs/reference/json.md, "From JSON to a text"), in the modes 0 to 2 of `print`; with
-/// parentheses where the tree needs them, if `parentheses` is not 0. The text is within the limits of a query, and means the
-/// tree.
+/// parentheses where the tree needs them, if `parentheses` is not 0. The form has at most `max_tree` bytes, and the text is within the
+/// limits of a query, and means the tree.
 pub fn print_tree(
     alloc: Global,
     limits: &Limits,
+    max_tree: usize,
     form: &[u8],
     mode: u32,
     level: u32,
@@ -156,12 +157,13 @@ pub fn print_tree(
     parentheses: u32,
     buffer: &mut [u8],
 ) -> CallResult
-    ensures { ShowsSome (IsTreePrintOf limits.now form.now (not (parentheses == 0)) (format_numbered mode level width))
+    ensures { ShowsSome (IsTreePrintOf limits.now max_tree form.now (not (parentheses == 0)) (format_numbered mode level width))
         result buffer.old buffer.new }
 {
     let made = print_form(
         alloc,
         limits,
+        max_tree,
         format_of(mode, level, width),
         parentheses != 0,
         form,
@@ -170,7 +172,7 @@ pub fn print_tree(
 }
 
 /// Lays a query out for people (docs/reference/formatting.md): comments stay, and chains of operators are flat. Lines have at most
-/// `width` characters where they can be broken, and indentations of `indent_width` spaces. Where `keep_spelling` is not 0, numbers,
+/// `width` characters where they can be broken, and indentations of `indent_width` spaces, at most 65,535 and 16. Where `keep_spelling` is not 0, numbers,
 /// durations, strings and the order of what is written stay as they are.
 pub fn format(
     alloc: Global,
@@ -181,12 +183,18 @@ pub fn format(
     keep_spelling: u32,
     buffer: &mut [u8],
 ) -> CallResult
-    ensures { ShowsSome (IsFormattedOf limits.now (not (keep_spelling == 0)) query.now) result buffer.old buffer.new }
+    ensures { ShowsSome (IsFormattedOf limits.now (record {
+      width = width;
+      indent_width = indent_width;
+      keep_spelling = not (keep_spelling == 0);
+      max_output = limits.now.max_output;
+    }) query.now) result buffer.old buffer.new }
 {
     let options = FormatOptions {
         width,
         indent_width,
         keep_spelling: keep_spelling != 0,
+        max_output: limits.max_output,
     };
     let made = format_bytes(alloc, limits, &options, query);
     show(alloc, made, buffer)

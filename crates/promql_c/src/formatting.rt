@@ -2,32 +2,13 @@
 
 ghost use Rattle.std.specs.Prelude.{string_bytes};
 ghost use Rattle.promql_grammar.specs.Results.{on_result};
-ghost use Rattle.promql_lines.specs.FormattedQueries.{IsFormattedQuery};
-ghost use Rattle.promql_lines.specs.QueryErrors.{IsOutput, Then};
 ghost use Rattle.promql_c.specs.Calls.{IsFormattedOf};
 
 use promql_formatter::FormatOptions;
 use promql_lines::formatted_query::formatted_query;
-use promql_lines::output::output_within;
 use promql_lines::query_error::QueryError;
 use promql_span::limits::Limits;
 use std::alloc::Global;
-
-/// The layout of a text's query.
-fn format_text(
-    alloc: Global,
-    limits: &Limits,
-    options: &FormatOptions,
-    text: &str,
-) -> Result<String, QueryError>
-    ensures { Then (IsFormattedQuery limits.now options.now.keep_spelling text.now) (IsOutput limits.now)
-        (on_result (λ s. string_bytes s) result) }
-{
-    match formatted_query(alloc, limits, options, text) {
-        Ok(layout) => output_within(limits, layout),
-        Err(error) => Err(error),
-    }
-}
 
 /// The query, laid out for people.
 pub(crate) fn format_bytes(
@@ -36,10 +17,10 @@ pub(crate) fn format_bytes(
     options: &FormatOptions,
     query: &[u8],
 ) -> Result<String, QueryError>
-    ensures { IsFormattedOf limits.now options.now.keep_spelling query.now (on_result (λ s. string_bytes s) result) }
+    ensures { IsFormattedOf limits.now options.now query.now (on_result (λ s. string_bytes s) result) }
 {
     let Ok(text) = str::from_utf8(query) else {
         return Err(QueryError::NotUtf8);
     };
-    format_text(alloc, limits, options, text)
+    formatted_query(alloc, limits, options, text)
 }

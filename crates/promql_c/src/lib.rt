@@ -5,6 +5,8 @@
 ghost use Rattle.std.specs.Prelude.{◌≡◌, ◌==◌, [], not, Some, Ok};
 ghost use Rattle.promql_run.specs.declared.format.Format.TheVariants.{Line};
 ghost use Rattle.promql_c.specs.CallResults.{Shows, ShowsSome};
+ghost use Rattle.promql_span.specs.Targets.{for_rules};
+ghost use Rattle.promql_c.specs.CallLimits.{limits_of};
 ghost use Rattle.promql_c.specs.Calls.{IsEnforceOf, IsExplainOf, IsFormattedOf, IsPrintOf, IsRenameOf, IsSnippetOf, IsTextOf, IsTreePrintOf};
 ghost use Rattle.promql_c.specs.CollectedTexts.{IsCollectedText};
 ghost use Rattle.promql_c.specs.Formats.{format_numbered, mode_numbered, named_numbered};
@@ -12,11 +14,12 @@ ghost use Rattle.promql_c.specs.PlacesText.{IsPlacesText};
 ghost use Rattle.promql_lines.specs.declared.mode.Mode.TheVariants.{Plain};
 ghost use Rattle.promql_c.specs.declared.calls.TheConstants.{CALLS_VERSION};
 
+pub use call_limits::CallLimits;
 pub use call_result::CallResult;
 pub use calls::CALLS_VERSION;
-use promql_span::limits::Limits;
 use std::alloc::Global;
 
+mod call_limits;
 mod call_result;
 mod calls;
 mod collecting;
@@ -33,7 +36,7 @@ mod tree_printing;
 #[unsafe(no_mangle)]
 pub extern "C" fn call_print(
     alloc: Global,
-    limits: &Limits,
+    limits: &CallLimits,
     query: &[u8],
     mode: u32,
     level: u32,
@@ -41,46 +44,54 @@ pub extern "C" fn call_print(
     buffer: &mut [u8],
     shown: &mut CallResult,
 )
-    ensures { ShowsSome (IsPrintOf limits.now query.now (mode_numbered mode level width))
+    ensures { ShowsSome (IsPrintOf (for_rules (limits_of limits.now)) query.now (mode_numbered mode level width))
         shown.new buffer.old buffer.new }
 {
-    *shown = calls::print(alloc, limits, query, mode, level, width, buffer);
+    *shown = calls::print(
+        alloc,
+        &limits.limits().for_rules(),
+        query,
+        mode,
+        level,
+        width,
+        buffer,
+    );
 }
 
 /// `calls::canonical`.
 #[unsafe(no_mangle)]
 pub extern "C" fn call_canonical(
     alloc: Global,
-    limits: &Limits,
+    limits: &CallLimits,
     query: &[u8],
     buffer: &mut [u8],
     shown: &mut CallResult,
 )
-    ensures { ShowsSome (IsPrintOf limits.now query.now (Some (Plain Line))) shown.new buffer.old buffer.new }
+    ensures { ShowsSome (IsPrintOf (for_rules (limits_of limits.now)) query.now (Some (Plain Line))) shown.new buffer.old buffer.new }
 {
-    *shown = calls::canonical(alloc, limits, query, buffer);
+    *shown = calls::canonical(alloc, &limits.limits().for_rules(), query, buffer);
 }
 
 /// `calls::enforce`.
 #[unsafe(no_mangle)]
 pub extern "C" fn call_enforce(
     alloc: Global,
-    limits: &Limits,
+    limits: &CallLimits,
     query: &[u8],
     matcher: &[u8],
     buffer: &mut [u8],
     shown: &mut CallResult,
 )
-    ensures { ShowsSome (IsEnforceOf limits.now query.now matcher.now) shown.new buffer.old buffer.new }
+    ensures { ShowsSome (IsEnforceOf (limits_of limits.now) query.now matcher.now) shown.new buffer.old buffer.new }
 {
-    *shown = calls::enforce(alloc, limits, query, matcher, buffer);
+    *shown = calls::enforce(alloc, &limits.limits(), query, matcher, buffer);
 }
 
 /// `calls::rename`.
 #[unsafe(no_mangle)]
 pub extern "C" fn call_rename(
     alloc: Global,
-    limits: &Limits,
+    limits: &CallLimits,
     query: &[u8],
     kind: u32,
     from: &[u8],
@@ -88,67 +99,67 @@ pub extern "C" fn call_rename(
     buffer: &mut [u8],
     shown: &mut CallResult,
 )
-    ensures { ShowsSome (IsRenameOf limits.now query.now from.now to.now (named_numbered kind))
+    ensures { ShowsSome (IsRenameOf (limits_of limits.now) query.now from.now to.now (named_numbered kind))
         shown.new buffer.old buffer.new }
 {
-    *shown = calls::rename(alloc, limits, query, kind, from, to, buffer);
+    *shown = calls::rename(alloc, &limits.limits(), query, kind, from, to, buffer);
 }
 
 /// `calls::collect`.
 #[unsafe(no_mangle)]
 pub extern "C" fn call_collect(
     alloc: Global,
-    limits: &Limits,
+    limits: &CallLimits,
     query: &[u8],
     buffer: &mut [u8],
     shown: &mut CallResult,
 )
-    ensures { ShowsSome (IsTextOf IsCollectedText limits.now query.now) shown.new buffer.old buffer.new }
+    ensures { ShowsSome (IsTextOf IsCollectedText (for_rules (limits_of limits.now)) query.now) shown.new buffer.old buffer.new }
 {
-    *shown = calls::collect(alloc, limits, query, buffer);
+    *shown = calls::collect(alloc, &limits.limits().for_rules(), query, buffer);
 }
 
 /// `calls::places`.
 #[unsafe(no_mangle)]
 pub extern "C" fn call_places(
     alloc: Global,
-    limits: &Limits,
+    limits: &CallLimits,
     query: &[u8],
     buffer: &mut [u8],
     shown: &mut CallResult,
 )
-    ensures { ShowsSome (IsTextOf (IsPlacesText query.now) limits.now query.now) shown.new buffer.old buffer.new }
+    ensures { ShowsSome (IsTextOf (IsPlacesText query.now) (for_rules (limits_of limits.now)) query.now) shown.new buffer.old buffer.new }
 {
-    *shown = calls::places(alloc, limits, query, buffer);
+    *shown = calls::places(alloc, &limits.limits().for_rules(), query, buffer);
 }
 
 /// `calls::check`.
 #[unsafe(no_mangle)]
 pub extern "C" fn call_check(
     alloc: Global,
-    limits: &Limits,
+    limits: &CallLimits,
     query: &[u8],
     buffer: &mut [u8],
     shown: &mut CallResult,
 )
-    ensures { ShowsSome (IsTextOf (λ t text. text ≡ []) limits.now query.now) shown.new buffer.old buffer.new }
+    ensures { ShowsSome (IsTextOf (λ t text. text ≡ []) (limits_of limits.now) query.now) shown.new buffer.old buffer.new }
 {
-    *shown = calls::check(alloc, limits, query, buffer);
+    *shown = calls::check(alloc, &limits.limits(), query, buffer);
 }
 
 /// `calls::explain`.
 #[unsafe(no_mangle)]
 pub extern "C" fn call_explain(
     alloc: Global,
-    limits: &Limits,
+    limits: &CallLimits,
     query: &[u8],
     as_json: u32,
     buffer: &mut [u8],
     shown: &mut CallResult,
 )
-    ensures { ShowsSome (IsExplainOf limits.now (not (as_json == 0)) query.now) shown.new buffer.old buffer.new }
+    ensures { ShowsSome (IsExplainOf (limits_of limits.now) (not (as_json == 0)) query.now) shown.new buffer.old buffer.new }
 {
-    *shown = calls::explain(alloc, limits, query, as_json, buffer);
+    *shown = calls::explain(alloc, &limits.limits(), query, as_json, buffer);
 }
 
 /// `calls::snippet`.
@@ -171,7 +182,8 @@ pub extern "C" fn call_snippet(
 #[unsafe(no_mangle)]
 pub extern "C" fn call_print_tree(
     alloc: Global,
-    limits: &Limits,
+    limits: &CallLimits,
+    max_tree: usize,
     form: &[u8],
     mode: u32,
     level: u32,
@@ -180,17 +192,27 @@ pub extern "C" fn call_print_tree(
     buffer: &mut [u8],
     shown: &mut CallResult,
 )
-    ensures { ShowsSome (IsTreePrintOf limits.now form.now (not (parentheses == 0)) (format_numbered mode level width))
+    ensures { ShowsSome (IsTreePrintOf (for_rules (limits_of limits.now)) max_tree form.now (not (parentheses == 0)) (format_numbered mode level width))
         shown.new buffer.old buffer.new }
 {
-    *shown = calls::print_tree(alloc, limits, form, mode, level, width, parentheses, buffer);
+    *shown = calls::print_tree(
+        alloc,
+        &limits.limits().for_rules(),
+        max_tree,
+        form,
+        mode,
+        level,
+        width,
+        parentheses,
+        buffer,
+    );
 }
 
 /// `calls::format`.
 #[unsafe(no_mangle)]
 pub extern "C" fn call_format(
     alloc: Global,
-    limits: &Limits,
+    limits: &CallLimits,
     query: &[u8],
     width: usize,
     indent_width: usize,
@@ -198,11 +220,16 @@ pub extern "C" fn call_format(
     buffer: &mut [u8],
     shown: &mut CallResult,
 )
-    ensures { ShowsSome (IsFormattedOf limits.now (not (keep_spelling == 0)) query.now) shown.new buffer.old buffer.new }
+    ensures { ShowsSome (IsFormattedOf (limits_of limits.now) (record {
+      width = width;
+      indent_width = indent_width;
+      keep_spelling = not (keep_spelling == 0);
+      max_output = (limits_of limits.now).max_output;
+    }) query.now) shown.new buffer.old buffer.new }
 {
     *shown = calls::format(
         alloc,
-        limits,
+        &limits.limits(),
         query,
         width,
         indent_width,

@@ -17,13 +17,14 @@ use std::alloc::Global;
 fn print_text(
     alloc: Global,
     limits: &Limits,
+    max_tree: usize,
     format: Format,
     parens: bool,
     form: &str,
 ) -> Result<String, QueryError>
-    ensures { Then (PrintsForm limits.now format parens form.now) (IsOutput limits.now) (on_result (λ s. string_bytes s) result) }
+    ensures { Then (PrintsForm limits.now max_tree format parens form.now) (IsOutput limits.now) (on_result (λ s. string_bytes s) result) }
 {
-    match tree_text(alloc, limits, format, parens, form) {
+    match tree_text(alloc, limits, max_tree, format, parens, form) {
         Ok(text) => output_within(limits, text),
         Err(error) => Err(error),
     }
@@ -33,11 +34,12 @@ fn print_text(
 pub(crate) fn print_form(
     alloc: Global,
     limits: &Limits,
+    max_tree: usize,
     asked: Option<Format>,
     parens: bool,
     form: &[u8],
 ) -> Result<String, QueryError>
-    ensures { IsTreePrintOf limits.now form.now parens asked (on_result (λ s. string_bytes s) result) }
+    ensures { IsTreePrintOf limits.now max_tree form.now parens asked (on_result (λ s. string_bytes s) result) }
 {
     let Some(format) = asked else {
         return Err(QueryError::UnknownMode);
@@ -45,5 +47,5 @@ pub(crate) fn print_form(
     let Ok(form) = str::from_utf8(form) else {
         return Err(QueryError::NotUtf8);
     };
-    print_text(alloc, limits, format, parens, form)
+    print_text(alloc, limits, max_tree, format, parens, form)
 }

@@ -12,6 +12,8 @@ never_shown true query layout (other, is) = cc
 pub never_not_utf8 : (s : Settings) (query : Text) → ¬ IsFormatAnswer s query (Err error.NotUtf8)
 never_not_utf8 s query (inl (inl (inl (r, is, rejected, untold)))) = cc
 never_not_utf8 s query (inl (inl (inr is))) = cc
-never_not_utf8 s query (inl (inr (t, read, inl is))) = cc
+never_not_utf8 s query (inl (inr (t, read, inl (inl is)))) = cc
+never_not_utf8 s query (inl (inr (t, read, inl (inr (inl (long, too, is)))))) = cc
+never_not_utf8 s query (inl (inr (t, read, inl (inr (inr (wide, too, is)))))) = cc
 never_not_utf8 s query (inl (inr (t, read, inr is))) = cc
 never_not_utf8 s query (inr (layout, formatted, shown)) = never_shown s.is_check query layout shown

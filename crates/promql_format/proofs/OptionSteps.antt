@@ -1,9 +1,8 @@
 -- The options of the program, one at a time.
-use Rattle.std.proofs.Common.{◌≡◌, ℕ, ◌-◌, ◌≤◌, true, false, cond, [], ◌∷◌, List, length, drop, take, map, get_or, Some, None, Global, String, string_bytes, sym, ap, ◌∙◌, arith}
+use Rattle.std.proofs.Common.{◌≡◌, ◌-◌, ◌≤◌, true, false, cond, [], ◌∷◌, List, length, drop, take, map, get_or, Some, None, Global, String, string_bytes, sym, ap, ap₂, ◌∙◌, arith}
 use Rattle.std.specs.Prelude.{option_and_then}
 use Rattle.std.proofs.lemmas.List.{take_rest}
-use Rattle.promql_report.specs.LimitOptions.{number_in}
-use Rattle.promql_format.specs.Settings.{is_flag, settings_with, with_flag, with_number}
+use Rattle.promql_format.specs.Settings.{is_flag, settings_with, with_flag, with_option}
 use Rattle.promql_format.specs.declared.settings.Settings.{Settings}
 
 -- an option without a number, and then the words after it
@@ -12,7 +11,7 @@ flag_first : (s : Settings) (w : String Global) (words : List (String Global)) �
 flag_first s w [] is = sym (ap (λ b. cond b (Some (with_flag s (string_bytes w))) None) is)
 flag_first s w (v ∷ words) is =
     sym (ap (λ b. cond b (settings_with (with_flag s (string_bytes w)) (map string_bytes (v ∷ words)))
-    (option_and_then (λ n. option_and_then (λ changed. settings_with changed (map string_bytes words)) (with_number s (string_bytes w) n)) (number_in (string_bytes v)))) is)
+    (option_and_then (λ changed. settings_with changed (map string_bytes words)) (with_option s (string_bytes w) (string_bytes v)))) is)
 
 pub one_flag : (s : Settings) (words : List (String Global)) (word : String Global) → 1 ≤ length words → word ≡ get_or words 0 word → is_flag (string_bytes word) ≡ true
     → settings_with (with_flag s (string_bytes word)) (map string_bytes (take (length words - 1) (drop 1 words))) ≡ settings_with s (map string_bytes words)
@@ -22,26 +21,24 @@ one_flag s (w ∷ words) word long first is =
     ∙ ap (λ x. settings_with (with_flag s (string_bytes x)) (map string_bytes words)) first
     ∙ flag_first s w words (ap (λ x. is_flag (string_bytes x)) (sym first) ∙ is)
 
--- an option with its number, and then the words after that
-number_first : (s changed : Settings) (w v : String Global) (n : ℕ) (words : List (String Global)) → is_flag (string_bytes w) ≡ false
-    → number_in (string_bytes v) ≡ Some n → with_number s (string_bytes w) n ≡ Some changed
+-- an option with its value, and then the words after that
+option_first : (s changed : Settings) (w v : String Global) (words : List (String Global)) → is_flag (string_bytes w) ≡ false
+    → with_option s (string_bytes w) (string_bytes v) ≡ Some changed
     → settings_with changed (map string_bytes words) ≡ settings_with s (map string_bytes (w ∷ v ∷ words))
-number_first s changed w v n words is read changes =
+option_first s changed w v words is changes =
     sym (ap (λ b. cond b (settings_with (with_flag s (string_bytes w)) (map string_bytes (v ∷ words)))
-    (option_and_then (λ n. option_and_then (λ changed. settings_with changed (map string_bytes words)) (with_number s (string_bytes w) n)) (number_in (string_bytes v)))) is
-    ∙ ap (λ o. option_and_then (λ n. option_and_then (λ changed. settings_with changed (map string_bytes words)) (with_number s (string_bytes w) n)) o) read
+    (option_and_then (λ changed. settings_with changed (map string_bytes words)) (with_option s (string_bytes w) (string_bytes v)))) is
     ∙ ap (λ o. option_and_then (λ changed. settings_with changed (map string_bytes words)) o) changes)
 
-pub one_number : (s changed : Settings) (words after : List (String Global)) (word value : String Global) (n : ℕ) → after ≡ drop 1 words
+pub one_option : (s changed : Settings) (words after : List (String Global)) (word value : String Global) → after ≡ drop 1 words
     → 1 ≤ length after → word ≡ get_or words 0 word → value ≡ get_or after 0 value → is_flag (string_bytes word) ≡ false
-    → number_in (string_bytes value) ≡ Some n → with_number s (string_bytes word) n ≡ Some changed
+    → with_option s (string_bytes word) (string_bytes value) ≡ Some changed
     → settings_with changed (map string_bytes (take (length after - 1) (drop 1 after))) ≡ settings_with s (map string_bytes words)
-one_number s changed [] after word value n rest long first second is read changes = absurd (omega (arith, long, ap length rest))
-one_number s changed (w ∷ []) after word value n rest long first second is read changes = absurd (omega (arith, long, ap length rest))
-one_number s changed (w ∷ v ∷ words) after word value n rest long first second is read changes =
+one_option s changed [] after word value rest long first second is changes = absurd (omega (arith, long, ap length rest))
+one_option s changed (w ∷ []) after word value rest long first second is changes = absurd (omega (arith, long, ap length rest))
+one_option s changed (w ∷ v ∷ words) after word value rest long first second is changes =
     let value_is : value ≡ v = second ∙ ap (λ xs. get_or xs 0 value) rest in
     ap (λ xs. settings_with changed (map string_bytes xs)) (take_rest after 1 ∙ ap (λ xs. drop 1 xs) rest)
-    ∙ number_first s changed w v n words
+    ∙ option_first s changed w v words
     (ap (λ x. is_flag (string_bytes x)) (sym first) ∙ is)
-    (ap (λ x. number_in (string_bytes x)) (sym value_is) ∙ read)
-    (ap (λ x. with_number s (string_bytes x) n) (sym first) ∙ changes)
+    (ap₂ (λ x y. with_option s (string_bytes x) (string_bytes y)) (sym first) (sym value_is) ∙ changes)

@@ -23,7 +23,7 @@ IsShown true query layout (Err e) = ¬ (IsFormatted query layout) × (e ≡ erro
 
 -- what is written of the query, or why there is none: it has no layout, or is not that
 abbrev pub IsFormatAnswer : Settings → Text → Result Text QueryError → Type 0
-IsFormatAnswer s query = Then (IsFormattedQuery s.limits s.options.keep_spelling query) (IsShown s.is_check query)
+IsFormatAnswer s query = Then (IsFormattedQuery s.limits s.options query) (IsShown s.is_check query)
 
 -- ---- the program
 

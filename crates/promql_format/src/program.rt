@@ -16,14 +16,14 @@ use std::io::{Read, Write};
 
 /// The line that is printed for wrong arguments, and the first of the help.
 pub const FORMAT_USAGE: &str =
-    "usage: promql_format [FILE] [--width N] [--indent N] [--keep-spelling] [--check] [--max-len N] [--max-patterns N]\n";
+    "usage: promql_format [FILE] [--width N] [--indent N] [--keep-spelling] [--check] [--target NAME] [--max-len N] [--max-patterns N] [--max-output N]\n";
 
 /// What `--version` prints.
 pub const FORMAT_VERSION: &str = "promql_format 0.5.0\n";
 
 /// What `--help` prints.
 pub const FORMAT_HELP: &str =
-    "usage: promql_format [FILE] [--width N] [--indent N] [--keep-spelling] [--check] [--max-len N] [--max-patterns N]
+    "usage: promql_format [FILE] [--width N] [--indent N] [--keep-spelling] [--check] [--target NAME] [--max-len N] [--max-patterns N] [--max-output N]
        promql_format -h | --help | --version
 
 Reads a PromQL query from FILE, or from standard input, and writes it to standard
@@ -32,13 +32,16 @@ output, laid out in lines of at most --width characters (100) with indentations 
 strings, keywords and the order of what is written stay, too. With --check nothing
 is written, and the status says whether the query is formatted. A query of more
 than --max-len bytes (32768), or with patterns that are together larger than
---max-patterns (16000), is rejected before it is parsed.
+--max-patterns (16000), is rejected before it is parsed. A layout of more than
+--max-output bytes (4194304) is an error. An escape of a byte past ASCII means
+something else to Prometheus, and is an error; with --target rules it is not.
 
-Status: 0 the query was written, or is formatted, 4 the query is rejected, 12 the
-query that was made does not read back, 14 the query is too long or its patterns
-are too large, 19 the query is not formatted, 1 out of memory, 2 a read failed,
-3 the input is not UTF-8, 5 a write failed, 64 wrong arguments, 141 nobody reads
-what is written.
+Status: 0 the query was written, or is formatted, 4 the query is rejected, 9 the
+width is above 65535 or the indentation above 16, 12 the query that was made does
+not read back, 14 the query is too long or its patterns are too large, 18 the
+layout is too long, 19 the query is not formatted, 23 the target (prometheus-3)
+reads it otherwise, 1 out of memory, 2 a read failed, 3 the input is not UTF-8,
+5 a write failed, 64 wrong arguments, 141 nobody reads what is written.
 ";
 
 /// Writes the layout of the input's query, or compares the two, and returns the status.

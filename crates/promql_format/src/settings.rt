@@ -7,7 +7,8 @@ ghost use Rattle.promql_format.specs.Settings as spec;
 use promql_formatter::FormatOptions;
 use promql_formatter::options::{DEFAULT_INDENT_WIDTH, DEFAULT_WIDTH};
 use promql_report::limit_options::default_limits;
-use promql_span::limits::Limits;
+use promql_span::Target;
+use promql_span::limits::{Limits, MAX_OUTPUT};
 
 /// What is to be done with a query.
 #[derive(Clone, Copy, Debug, PartialEq, Eq)]
@@ -48,11 +49,25 @@ fn with_number(settings: Settings, name: &str, number: usize) -> Option<Settings
     match name {
         "--width" => changed.options.width = number,
         "--indent" => changed.options.indent_width = number,
+        "--max-output" => changed.options.max_output = number,
         "--max-len" => changed.limits.max_len = number,
         "--max-patterns" => changed.limits.max_pattern_size = number,
         _ => return None,
     }
     Some(changed)
+}
+
+/// The settings as an option with a value changes them; `None` where there is no option of this name, or none with this value.
+fn with_option(settings: Settings, name: &str, value: &str) -> Option<Settings>
+    ensures { result ≡ spec.with_option settings name.now value.now }
+{
+    if name == "--target" {
+        let mut changed = settings;
+        changed.limits.target = Target::from_name(value)?;
+        Some(changed)
+    } else {
+        with_number(settings, name, number_in(value)?)
+    }
 }
 
 /// The number that a word is.
@@ -72,6 +87,7 @@ fn default_settings() -> Settings
             width: DEFAULT_WIDTH,
             indent_width: DEFAULT_INDENT_WIDTH,
             keep_spelling: false,
+            max_output: MAX_OUTPUT,
         },
         is_check: false,
     }
@@ -91,7 +107,7 @@ fn settings_with(settings: Settings, words: &[String]) -> Option<Settings>
             let [value, others @ ..] = after else {
                 return None;
             };
-            changed = with_number(changed, word.as_str(), number_in(value.as_str())?)?;
+            changed = with_option(changed, word.as_str(), value.as_str())?;
             rest = others;
         }
     }

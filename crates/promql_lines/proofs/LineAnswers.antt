@@ -14,7 +14,7 @@ use Rattle.promql_ast.specs.Tree.{Tree}
 use Rattle.promql_report.specs.Rejecting.{IsRead}
 use Rattle.promql_span.specs.declared.limits.Limits.{Limits}
 use Rattle.promql_lines.specs.declared.settings.Settings.{Settings}
-use Rattle.promql_lines.specs.Batch.{PrintsAsked, PrintsQuery, error_value, with_expectation}
+use Rattle.promql_lines.specs.Batch.{PrintsAsked, PrintsQuery, error_value, limits_of, with_expectation}
 use Rattle.promql_lines.specs.BatchSteps.{FailsWith, IsAsked, IsAskedAnswer, IsAskedPrint, IsModeAnswer, IsOkLine, IsQueryAnswer, IsTreeAnswer, PrintsFormat}
 use Rattle.promql_lines.specs.QueryErrors.{IsOutput, query_error_number, rejected_in}
 use Rattle.promql_lines.specs.declared.query_error.QueryError.TheVariants as error
@@ -107,11 +107,11 @@ mode_fails (Err e) limits query matcher format m t is fails =
     subst (λ m. PrintsAsked limits query m matcher t (Err e)) is (asked_prints limits query matcher format t (Err e) fails)
 
 -- what is printed of a tree is printed of the query
-pub query_answers : (r : Result (String Global) QueryError) (limits : Limits) (query : Text) (matcher : Option Text) (m : Mode) (t : Tree) → IsRead limits query t
+pub query_answers : (r : Result (String Global) QueryError) (limits : Limits) (query : Text) (matcher : Option Text) (m : Mode) (t : Tree) → IsRead (limits_of matcher limits) query t
     → IfOk r (λ s. IsModeAnswer limits query matcher m t (string_bytes s)) → IfOk r (λ s. IsQueryAnswer limits (string_bytes s) query matcher m)
 query_answers r limits query matcher m t read = IfOk-weaker r _ _ (λ s has. (has.0, (t, read, has.1), has.2))
 
-pub query_fails : {T : Type 0} (r : Result T QueryError) (limits : Limits) (query : Text) (matcher : Option Text) (m : Mode) (t : Tree) → IsRead limits query t
+pub query_fails : {T : Type 0} (r : Result T QueryError) (limits : Limits) (query : Text) (matcher : Option Text) (m : Mode) (t : Tree) → IsRead (limits_of matcher limits) query t
     → IfErr r (λ e. PrintsAsked limits query m matcher t (Err e)) → IfErr r (λ e. PrintsQuery limits (query, matcher, m) (Err e))
 query_fails (Ok value) limits query matcher m t read fails = tt
 query_fails (Err e) limits query matcher m t read fails = inr (t, read, fails)

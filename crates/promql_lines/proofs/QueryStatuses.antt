@@ -12,16 +12,19 @@ is_own n = not (n == 0 || n == 2 || n == 5)
 numbers_are_own : (e : QueryError) → is_own (query_error_number e) ≡ true
 numbers_are_own error.Memory = refl
 numbers_are_own error.NotUtf8 = refl
-numbers_are_own (error.Rejected r) = ⊎_elim (λ is. ap is_own is) (λ is. ap is_own is) (rejected_status r.rejection.reason)
+numbers_are_own (error.Rejected r) = ⊎_elim (λ is. ap is_own is) (⊎_elim (λ is. ap is_own is) (λ is. ap is_own is)) (rejected_status r.rejection.reason)
 numbers_are_own (error.NoForm e) = refl
 numbers_are_own error.NotARequest = refl
 numbers_are_own (error.UnknownMember name) = refl
 numbers_are_own error.UnknownMode = refl
+numbers_are_own (error.WideLayout wide) = refl
 numbers_are_own (error.Matcher e) = refl
+numbers_are_own (error.MatcherOtherwise at) = refl
 numbers_are_own (error.Unfaithful e) = refl
 numbers_are_own (error.NotPrintable reason) = refl
 numbers_are_own error.NotFormatted = refl
 numbers_are_own error.Info = refl
+numbers_are_own (error.LargeForm fault) = refl
 numbers_are_own (error.LargeTree fault) = refl
 numbers_are_own (error.Large measured fault) = refl
 numbers_are_own (error.NotATree e) = refl
@@ -36,17 +39,24 @@ not_status e n none is = let same : true ≡ false = sym (numbers_are_own e) ∙
 
 pub three_is_not_utf8 : (e : QueryError) → query_error_number e ≡ 3 → e ≡ error.NotUtf8
 three_is_not_utf8 error.NotUtf8 three = refl
-three_is_not_utf8 (error.Rejected r) three = ⊎_elim (λ is. let same : 4 ≡ 3 = sym is ∙ three in cc) (λ is. let same : 14 ≡ 3 = sym is ∙ three in cc) (rejected_status r.rejection.reason)
+three_is_not_utf8 (error.Rejected r) three =
+    ⊎_elim
+    (λ is. let same : 4 ≡ 3 = sym is ∙ three in cc)
+    (⊎_elim (λ is. let same : 14 ≡ 3 = sym is ∙ three in cc) (λ is. let same : 23 ≡ 3 = sym is ∙ three in cc))
+    (rejected_status r.rejection.reason)
 three_is_not_utf8 error.Memory three = cc
 three_is_not_utf8 (error.NoForm e) three = cc
 three_is_not_utf8 error.NotARequest three = cc
 three_is_not_utf8 (error.UnknownMember name) three = cc
 three_is_not_utf8 error.UnknownMode three = cc
+three_is_not_utf8 (error.WideLayout wide) three = cc
 three_is_not_utf8 (error.Matcher e) three = cc
+three_is_not_utf8 (error.MatcherOtherwise at) three = cc
 three_is_not_utf8 (error.Unfaithful e) three = cc
 three_is_not_utf8 (error.NotPrintable reason) three = cc
 three_is_not_utf8 error.NotFormatted three = cc
 three_is_not_utf8 error.Info three = cc
+three_is_not_utf8 (error.LargeForm fault) three = cc
 three_is_not_utf8 (error.LargeTree fault) three = cc
 three_is_not_utf8 (error.Large measured fault) three = cc
 three_is_not_utf8 (error.NotATree e) three = cc

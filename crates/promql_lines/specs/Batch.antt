@@ -13,6 +13,7 @@ use Rattle.promql_text.specs.Texts.{Text}
 use Rattle.promql_ast.specs.Tree.{Tree}
 use Rattle.promql_run.specs.Ended.{AppendsBeginning}
 use Rattle.promql_json.specs.JsonParts.{list}
+use Rattle.promql_span.specs.Targets.{for_rules}
 use Rattle.promql_span.specs.declared.limits.Limits.{Limits}
 use Rattle.promql_lines.specs.EnforcedLines.{Enforces}
 use Rattle.promql_lines.specs.QueryErrors.{Prints, ReadsQuery, Then, query_error_number, rejected_in}
@@ -49,9 +50,14 @@ abbrev pub PrintsAsked : Limits → Text → Mode → Option Text → Tree → R
 PrintsAsked limits query (mode.Plain format) (Some matcher) t = Then (Enforces limits matcher t) (Prints limits query (mode.Plain format))
 PrintsAsked limits query m matcher t = Prints limits query m t
 
+-- a target counts only where a matcher is enforced
+abbrev pub limits_of : Option Text → Limits → Limits
+limits_of None limits = for_rules limits
+limits_of (Some matcher) limits = limits
+
 -- the same of a query, a matcher and a mode; where the query is rejected, it is told what was expected
 abbrev pub PrintsQuery : Limits → Text × Option Text × Mode → Result Text QueryError → Type 0
-PrintsQuery limits asked = Then (ReadsQuery (IsToldWith asked.0) limits asked.0) (PrintsAsked limits asked.0 asked.2 asked.1)
+PrintsQuery limits asked = Then (ReadsQuery (IsToldWith asked.0) (limits_of asked.1 limits) asked.0) (PrintsAsked limits asked.0 asked.2 asked.1)
 
 abbrev pub texts : List Text → Data
 texts ts = list (map string ts)

@@ -1,6 +1,6 @@
 -- The line of a query with a matcher in its selectors (docs/guide/rewriting.md, "Enforcing"; docs/reference/programs.md, "One query,
 -- enforced").
-use Rattle.std.specs.Prelude.{◌≡◌, ◌++◌, if◌then◌else◌, List, ◌∷◌, Option, None, Result, Ok, Err, codes, option_map}
+use Rattle.std.specs.Prelude.{◌≡◌, ◌-◌, ◌++◌, if◌then◌else◌, List, ◌∷◌, Option, Some, None, Result, Ok, Err, codes, option_map}
 use Rattle.promql_run.specs.Arguments.{is_option}
 use Rattle.promql_text.specs.Texts.{Text}
 use Rattle.promql_ast.specs.Tree.{Tree}
@@ -8,6 +8,8 @@ use Rattle.promql_rewrite.specs.MatcherTexts.{IsEnforcedBy, IsMatcherText, Meets
 use Rattle.promql_run.specs.Programs.{Command}
 use Rattle.promql_report.specs.LimitOptions.{command, default_limits, limits_with}
 use Rattle.promql_span.specs.QueryLimits.{IsWithin}
+use Rattle.promql_span.specs.Targets.{difference}
+use Rattle.promql_span.specs.declared.span.Span.{Span}
 use Rattle.promql_lines.specs.LinesWithin.{HasLine}
 use Rattle.promql_lines.specs.QueryErrors.{IsOver, OfTree, Then}
 use Rattle.promql_lines.specs.declared.enforce_program.TheConstants.{ENFORCE_HELP, ENFORCE_VERSION}
@@ -16,12 +18,20 @@ use Rattle.promql_lines.specs.declared.query_error.Measured.TheVariants as measu
 use Rattle.promql_lines.specs.declared.query_error.QueryError.{QueryError}
 use Rattle.promql_lines.specs.declared.query_error.QueryError.TheVariants as error
 
--- the tree with the matcher in every selector, or why that is not made; the text that the matcher is read in has the limits of a query
+-- the text that a matcher is read in has the limits of a query, and their target reads no part of it otherwise
+abbrev pub IsMatcherWithin : Limits → Text → Type 0
+IsMatcherWithin limits matcher =
+    IsWithin (selector_around matcher) limits × (difference limits.target (selector_around matcher) ≡ None)
+
+-- the tree with the matcher in every selector, or why that is not made; seven bytes come before the matcher in the text that it is read in
 abbrev pub Enforces : Limits → Text → Tree → Result Tree QueryError → Type 0
-Enforces limits matcher t (Ok u) = IsWithin (selector_around matcher) limits × IsEnforcedBy matcher t u
+Enforces limits matcher t (Ok u) = IsMatcherWithin limits matcher × IsEnforcedBy matcher t u
 Enforces limits matcher t (Err (error.Large measured.MatcherText fault)) = IsOver limits (selector_around matcher) fault
-Enforces limits matcher t (Err (error.Matcher e)) = IsWithin (selector_around matcher) limits × IsMatcherText matcher (Err e)
-Enforces limits matcher t (Err error.Info) = IsWithin (selector_around matcher) limits × MeetsBareInfo matcher t
+Enforces limits matcher t (Err (error.MatcherOtherwise at)) =
+    IsWithin (selector_around matcher) limits
+    × ((span : Span) × (difference limits.target (selector_around matcher) ≡ Some span) × (at ≡ span.start - 7))
+Enforces limits matcher t (Err (error.Matcher e)) = IsMatcherWithin limits matcher × IsMatcherText matcher (Err e)
+Enforces limits matcher t (Err error.Info) = IsMatcherWithin limits matcher × MeetsBareInfo matcher t
 Enforces limits matcher t (Err e) = e ≡ error.Memory
 
 -- the line of a query's tree with the matcher in every selector; the matcher counts only where the query has a tree

@@ -1,12 +1,23 @@
 -- The layout of a query for people (docs/reference/formatting.md, "What is promised").
-use Rattle.std.specs.Prelude.{◌≡◌, Bool, Result}
+use Rattle.std.specs.Prelude.{◌≡◌, ◌⊎◌, Result}
 use Rattle.promql_text.specs.Texts.{Text}
-use Rattle.promql_formatter.specs.Formats.{IsFormatOf}
+use Rattle.promql_formatter.specs.Formats.{IsLayoutOf}
+use Rattle.promql_formatter.specs.Options.{IsTooLong, IsTooWide}
+use Rattle.promql_formatter.specs.declared.options.FormatOptions.{FormatOptions}
+use Rattle.promql_formatter.specs.declared.options.WideOption.{WideOption}
 use Rattle.promql_span.specs.declared.limits.Limits.{Limits}
+use Rattle.promql_span.specs.declared.limits.LongOutput.{LongOutput}
 use Rattle.promql_lines.specs.QueryErrors.{Gives, OfTree}
 use Rattle.promql_lines.specs.declared.query_error.QueryError.{QueryError}
 use Rattle.promql_lines.specs.declared.query_error.QueryError.TheVariants as error
 
--- a layout of the query, which has its tree and its comments; or none that reads back was made
-abbrev pub IsFormattedQuery : Limits → Bool → Text → Result Text QueryError → Type 0
-IsFormattedQuery limits keeps query = OfTree limits query (λ t. Gives (IsFormatOf keeps query) (λ e. e ≡ error.NotFormatted))
+-- none that reads back was made, or it would be too long, or an option asks for more than it may
+abbrev pub HasNoLayout : FormatOptions → QueryError → Type 0
+HasNoLayout options e =
+    (e ≡ error.NotFormatted)
+    ⊎ ((long : LongOutput) × IsTooLong options long × (e ≡ error.LongOutput long))
+    ⊎ ((wide : WideOption) × IsTooWide options wide × (e ≡ error.WideLayout wide))
+
+-- a layout of the query, which has its tree and its comments; or why there is none
+abbrev pub IsFormattedQuery : Limits → FormatOptions → Text → Result Text QueryError → Type 0
+IsFormattedQuery limits options query = OfTree limits query (λ t. Gives (IsLayoutOf options query) (HasNoLayout options))

@@ -29,11 +29,13 @@ query_error_number (error.NoForm e) = 6
 query_error_number error.NotARequest = 7
 query_error_number (error.UnknownMember name) = 7
 query_error_number error.UnknownMode = 9
+query_error_number (error.WideLayout wide) = 9
 query_error_number (error.Matcher e) = 11
 query_error_number (error.Unfaithful e) = 12
 query_error_number (error.NotPrintable reason) = 12
 query_error_number error.NotFormatted = 12
 query_error_number error.Info = 13
+query_error_number (error.LargeForm fault) = 14
 query_error_number (error.LargeTree fault) = 14
 query_error_number (error.Large measured fault) = 16
 query_error_number (error.NotATree e) = 17
@@ -42,6 +44,7 @@ query_error_number error.NotItsLayout = 19
 query_error_number error.NotAName = 20
 query_error_number error.MetricName = 21
 query_error_number error.Clash = 22
+query_error_number (error.MatcherOtherwise at) = 23
 
 -- the query that is rejected, where that is the error
 abbrev pub rejected_in : QueryError → Option RejectedQuery

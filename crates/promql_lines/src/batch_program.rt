@@ -22,14 +22,14 @@ pub const ERRORS_STATUS: u8 = 4;
 
 /// The line that is printed for wrong arguments, and the first of the help.
 pub const BATCH_USAGE: &str =
-    "usage: promql_batch pretty|line|json [FILE] [--max-len N] [--max-patterns N] [--max-output N]\n";
+    "usage: promql_batch pretty|line|json [FILE] [--target NAME] [--max-len N] [--max-patterns N] [--max-output N]\n";
 
 /// What `--version` prints.
 pub const BATCH_VERSION: &str = "promql_batch 0.5.0\n";
 
 /// What `--help` prints.
 pub const BATCH_HELP: &str =
-    "usage: promql_batch pretty|line|json [FILE] [--max-len N] [--max-patterns N] [--max-output N]
+    "usage: promql_batch pretty|line|json [FILE] [--target NAME] [--max-len N] [--max-patterns N] [--max-output N]
        promql_batch -h | --help | --version
 
 Reads a PromQL query from each line of FILE, or of standard input, and writes a
@@ -45,7 +45,9 @@ json, objects of nodes and matchers have \"start\" and \"end\", in bytes), and \
 {\"ok\":VALUE}, or {\"code\":NUMBER,\"error\":MESSAGE}. A query of more than --max-len
 bytes (32768), or with patterns that are together larger than --max-patterns
 (16000), is rejected before it is parsed. A TEXT, or the text of a VALUE, of
-more than --max-output bytes (4194304) is an error.
+more than --max-output bytes (4194304) is an error. An escape of a byte past
+ASCII, in a query with \"enforce\" or in its matcher, means something else to
+Prometheus, and is an error; with --target rules it is not.
 
 Status: 0 each line was answered with ok, 4 some line has an error, 1 out of
 memory, 2 a read failed, 5 a write failed, 64 wrong arguments, 141 nobody reads

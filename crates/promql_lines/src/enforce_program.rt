@@ -22,14 +22,14 @@ use std::io::{Read, Write};
 
 /// The line that is printed for wrong arguments, and the first of the help.
 pub const ENFORCE_USAGE: &str =
-    "usage: promql_enforce MATCHER [FILE] [--max-len N] [--max-patterns N]\n";
+    "usage: promql_enforce MATCHER [FILE] [--target NAME] [--max-len N] [--max-patterns N]\n";
 
 /// What `--version` prints.
 pub const ENFORCE_VERSION: &str = "promql_enforce 0.5.0\n";
 
 /// What `--help` prints.
 pub const ENFORCE_HELP: &str =
-    "usage: promql_enforce MATCHER [FILE] [--max-len N] [--max-patterns N]
+    "usage: promql_enforce MATCHER [FILE] [--target NAME] [--max-len N] [--max-patterns N]
        promql_enforce -h | --help | --version
 
 Reads a PromQL query from FILE, or from standard input, puts the matcher into
@@ -37,14 +37,17 @@ every selector of it, and writes the query to standard output, on one line.
 MATCHER is written as between the braces of a selector: namespace=\"team-a\". A
 query of more than --max-len bytes (32768), or with patterns that are together
 larger than --max-patterns (16000), is rejected before it is parsed. MATCHER, and
-the query that is written, have the same limits.
+the query that is written, have the same limits. An escape of a byte past ASCII, in
+the query or in MATCHER, means something else to Prometheus, and is an error; with
+--target rules it is not.
 
 Status: 0 the query was written, 4 the query is rejected, 11 MATCHER is not a
 matcher or is of the metric name, 12 the query that was made does not read back,
 13 the query has info without a selector, 14 the query is too long or its
-patterns are too large, 16 MATCHER is, or the query that was made, 1 out of
-memory, 2 a read failed, 3 the input is not UTF-8, 5 a write failed, 64 wrong
-arguments, 141 nobody reads what is written.
+patterns are too large, 16 MATCHER is, or the query that was made, 23 the target
+(prometheus-3) reads the query or MATCHER otherwise, 1 out of memory, 2 a read
+failed, 3 the input is not UTF-8, 5 a write failed, 64 wrong arguments, 141 nobody
+reads what is written.
 ";
 
 /// The line of a query with the matcher in every selector, and a line feed.

@@ -6,7 +6,7 @@ ghost use Rattle.promql_lines.specs.EnforcedLines.{Enforces, IsEnforcedLine};
 ghost use Rattle.promql_lines.specs.LinesWithin.{HasLine};
 ghost use Rattle.promql_lines.specs.QueryErrors.{Then};
 
-use crate::limit_checks::matcher_fault;
+use crate::limit_checks::check_matcher;
 use crate::line_within::line_within;
 use crate::query_error::{Measured, QueryError};
 use crate::query_tree::query_tree;
@@ -15,7 +15,8 @@ use promql_rewrite::{EnforceTextError, enforce_text};
 use promql_span::limits::Limits;
 use std::alloc::Global;
 
-/// The expression with the matcher in every selector. The matcher is read only where its text is within the limits.
+/// The expression with the matcher in every selector. The matcher is read only where its text is within the limits, and their target
+/// reads no part of it otherwise.
 pub(crate) fn enforced_within(
     alloc: Global,
     limits: &Limits,
@@ -25,9 +26,9 @@ pub(crate) fn enforced_within(
     ensures ok { IfOk result (λ e. Enforces limits.now matcher.now (tree_of expr) (Ok (tree_of e))) }
     ensures err { IfErr result (λ e. Enforces limits.now matcher.now (tree_of expr) (Err e)) }
 {
-    if let Some(fault) = matcher_fault(alloc, limits, matcher)? {
+    if let Err(error) = check_matcher(alloc, limits, matcher) {
         drop_expr(expr);
-        return Err(QueryError::Large(Measured::MatcherText, fault));
+        return Err(error);
     }
     match enforce_text(alloc, expr, matcher) {
         Ok(enforced) => Ok(enforced),
@@ -59,8 +60,9 @@ fn show_enforced(
 ///
 /// # Errors
 ///
-/// `Rejected` where the query is not within the limits, or the parser rejects it; else `Large` where the text that the matcher
-/// is read in is not within them; else `Matcher` where the text is no matcher, or one of the metric's name; else `Info`
+/// `Rejected` where the query is not within the limits, the parser rejects it, or their target reads a part of it otherwise; else `Large`
+/// where the text that the matcher is read in is not within them, `MatcherOtherwise` where the target reads a part of the matcher
+/// otherwise; else `Matcher` where the text is no matcher, or one of the metric's name; else `Info`
 /// where a call of `info` in the query has no second argument; else `Large` where the line is not within the limits;
 /// `Unfaithful` where it would not mean the enforced tree; `Memory` where an allocation failed.
 pub fn enforced_line(

@@ -1,12 +1,16 @@
 //! The layout of a query for people: docs/reference/formatting.md.
 
 ghost use Rattle.std.specs.Prelude.{Err, IfErr, IfOk, Ok, string_bytes};
-ghost use Rattle.promql_lines.specs.FormattedQueries.{IsFormattedQuery};
+ghost use Rattle.promql_ast.specs.View.{tree_of};
+ghost use Rattle.promql_formatter.specs.Formats.{IsLayoutOf};
+ghost use Rattle.promql_lines.specs.FormattedQueries.{HasNoLayout, IsFormattedQuery};
+ghost use Rattle.promql_lines.specs.QueryErrors.{Gives};
+ghost use Rattle.promql_syntax.specs.ParseAnswers.{IsAnswerTo};
 
 use crate::query_error::QueryError;
 use crate::query_tree::query_tree;
-use promql_ast::drop_expr;
-use promql_formatter::{FormatError, FormatOptions, format_query};
+use promql_ast::{Expr, drop_expr};
+use promql_formatter::{FormatError, FormatOptions, format_tree};
 use promql_span::limits::Limits;
 use std::alloc::Global;
 
@@ -14,22 +18,40 @@ use std::alloc::Global;
 ///
 /// # Errors
 ///
-/// `Rejected` where the query is not within its limits, or the parser rejects it; `NotFormatted` where the layout that was made does
-/// not read back; `Memory` where an allocation failed.
+/// `Rejected` where the query is not within its limits, or the parser rejects it; else `WideLayout` where an option asks for more than
+/// it may, `LongOutput` where the layout has more bytes than it may have, `NotFormatted` where the layout that was made does not read
+/// back; `Memory` where an allocation failed.
 pub fn formatted_query(
     alloc: Global,
     limits: &Limits,
     options: &FormatOptions,
     query: &str,
 ) -> Result<String, QueryError>
-    ensures ok { IfOk result (λ s. IsFormattedQuery limits.now options.now.keep_spelling query.now (Ok (string_bytes s))) }
-    ensures err { IfErr result (λ e. IsFormattedQuery limits.now options.now.keep_spelling query.now (Err e)) }
+    ensures ok { IfOk result (λ s. IsFormattedQuery limits.now options.now query.now (Ok (string_bytes s))) }
+    ensures err { IfErr result (λ e. IsFormattedQuery limits.now options.now query.now (Err e)) }
 {
     let expr = query_tree(alloc, limits, query)?;
+    let layout = layout_of_tree(alloc, options, query, &expr);
     drop_expr(expr);
-    match format_query(alloc, query, options) {
+    layout
+}
+
+/// The layout of a query that has this tree.
+fn layout_of_tree(
+    alloc: Global,
+    options: &FormatOptions,
+    query: &str,
+    expr: &Expr,
+) -> Result<String, QueryError>
+    requires { IsAnswerTo query.now (Ok (tree_of expr.now)) }
+    ensures ok { IfOk result (λ s. IsLayoutOf options.now query.now (string_bytes s)) }
+    ensures err { IfErr result (λ e. Gives (IsLayoutOf options.now query.now) (HasNoLayout options.now) (Err e)) }
+{
+    match format_tree(alloc, query, expr, options) {
         Ok(layout) => Ok(layout),
         Err(FormatError::Memory) => Err(QueryError::Memory),
+        Err(FormatError::TooWide(wide)) => Err(QueryError::WideLayout(wide)),
+        Err(FormatError::TooLong(long)) => Err(QueryError::LongOutput(long)),
         Err(FormatError::Rejected(_)) => Err(QueryError::NotFormatted),
         Err(FormatError::Unfaithful) => Err(QueryError::NotFormatted),
     }

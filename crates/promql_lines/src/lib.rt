@@ -17,6 +17,7 @@ pub mod placed_text;
 pub mod query_error;
 pub mod query_tree;
 mod quoted_query;
+pub mod read_form;
 pub mod rejected_query;
 pub mod renamed_line;
 pub mod request;

@@ -12,7 +12,7 @@ ghost use Rattle.promql_syntax.specs.ParseAnswers.{IsAnswerTo};
 ghost use Rattle.promql_syntax.specs.declared.parser.TheConstants.{MAX_DEPTH};
 ghost use Rattle.promql_run.specs.Extensions.{HasNoExtension};
 ghost use Rattle.promql_lines.specs.BatchSteps.{FailsWith, IsAsked, IsAskedAnswer, IsAskedPrint, IsModeAnswer, IsOkLine, IsPlacedAnswer, IsQueryAnswer, IsTreeAnswer, PrintsFormat};
-ghost use Rattle.promql_lines.specs.Batch.{IsErrorText, IsLineAnswer, IsPlainAnswer, PrintsAsked, PrintsQuery, error_value};
+ghost use Rattle.promql_lines.specs.Batch.{IsErrorText, IsLineAnswer, IsPlainAnswer, PrintsAsked, PrintsQuery, error_value, limits_of};
 ghost use Rattle.promql_lines.specs.QueryErrors.{Prints, ReadsQuery, query_error_number, rejected_in};
 ghost use Rattle.promql_lines.specs.Telling.{IsToldWith};
 ghost use Rattle.promql_lines.specs.Requests as spec;
@@ -193,6 +193,16 @@ fn answer_mode(
     }
 }
 
+/// The limits of a query: what is printed as it is has no target.
+fn limits_of(matcher: Option<&str>, limits: &Limits) -> Limits
+    ensures { result ≡ limits_of (option_map (λ s. s.now) matcher.entry) limits.now }
+{
+    match matcher {
+        Some(_) => *limits,
+        None => limits.for_rules(),
+    }
+}
+
 /// The answer to a query in a mode, with a matcher in its selectors if there is one.
 fn answer_query(
     alloc: Global,
@@ -206,7 +216,7 @@ fn answer_query(
     ensures err { IfErr result (λ e.
         PrintsQuery limits.now (query.now, option_map (λ s. s.now) matcher.entry, mode) (Err e)) }
 {
-    match read_tree(alloc, limits, query) {
+    match read_tree(alloc, &limits_of(matcher, limits), query) {
         Ok(expr) => answer_mode(alloc, limits, mode, query, expr, matcher),
         Err(error) => Err(error),
     }

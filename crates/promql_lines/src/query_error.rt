@@ -6,7 +6,9 @@ ghost use Rattle.promql_report.specs.Rejecting.{IsRejection};
 ghost use Rattle.promql_lines.specs.QueryErrors.{ReadsQuery, query_error_number, rejected_in};
 ghost use Rattle.promql_span.specs.declared.limits.Limits as spans;
 
+use crate::read_form::LargeForm;
 use crate::rejected_query::RejectedQuery;
+use promql_formatter::options::WideOption;
 use promql_from_json::FromJsonError;
 use promql_json::JsonError;
 use promql_report::rejection::Rejection;
@@ -53,9 +55,15 @@ pub enum QueryError {
     /// There is no mode or kind of this number, or the level of a layout is above 512.
     #[error("unknown mode")]
     UnknownMode,
+    /// An option asks for a layout with lines or indentations that are too wide.
+    #[error("{0}")]
+    WideLayout(WideOption),
     /// The matcher is none, or none to enforce.
     #[error("{0}")]
     Matcher(MatcherError),
+    /// The target reads the text of a matcher otherwise, at this byte of it, from 0.
+    #[error("Prometheus reads the matcher otherwise: the escape at byte {0} is a byte there, and a character here")]
+    MatcherOtherwise(usize),
     /// The text would not mean the tree.
     #[error("{0}")]
     Unfaithful(NotFaithful),
@@ -68,6 +76,9 @@ pub enum QueryError {
     /// A call of `info` in the query has no second argument, and a matcher is to be enforced.
     #[error("info without a selector reads series that no matcher limits")]
     Info,
+    /// A tree that is given as JSON is too long, or its patterns are too large together. Of a pattern nothing was read.
+    #[error("{0}")]
+    LargeForm(LargeForm),
     /// The line of a tree that is given as JSON is not within the limits of a query.
     #[error("{0}")]
     LargeTree(LimitFault),
@@ -116,13 +127,13 @@ impl QueryError {
             QueryError::Rejected(query) => query.rejection.reason.number(),
             QueryError::NoForm(_) => 6,
             QueryError::NotARequest | QueryError::UnknownMember(_) => 7,
-            QueryError::UnknownMode => 9,
+            QueryError::UnknownMode | QueryError::WideLayout(_) => 9,
             QueryError::Matcher(_) => 11,
             QueryError::Unfaithful(_) | QueryError::NotPrintable(_) | QueryError::NotFormatted => {
                 12
             }
             QueryError::Info => 13,
-            QueryError::LargeTree(_) => 14,
+            QueryError::LargeForm(_) | QueryError::LargeTree(_) => 14,
             QueryError::Large(_, _) => 16,
             QueryError::NotATree(_) => 17,
             QueryError::LongOutput(_) => 18,
@@ -130,6 +141,7 @@ impl QueryError {
             QueryError::NotAName => 20,
             QueryError::MetricName => 21,
             QueryError::Clash => 22,
+            QueryError::MatcherOtherwise(_) => 23,
         }
     }
 
@@ -145,11 +157,14 @@ impl QueryError {
             | QueryError::NotARequest
             | QueryError::UnknownMember(_)
             | QueryError::UnknownMode
+            | QueryError::WideLayout(_)
             | QueryError::Matcher(_)
+            | QueryError::MatcherOtherwise(_)
             | QueryError::Unfaithful(_)
             | QueryError::NotPrintable(_)
             | QueryError::NotFormatted
             | QueryError::Info
+            | QueryError::LargeForm(_)
             | QueryError::LargeTree(_)
             | QueryError::Large(_, _)
             | QueryError::NotATree(_)

@@ -2,7 +2,7 @@
 
 ghost use Rattle.std.specs.Prelude.{◌≡◌, Err, IfErr, IfOk, Ok, if◌then◌else◌, string_bytes};
 ghost use Rattle.promql_ast.specs.View.{tree_of};
-ghost use Rattle.promql_lines.specs.TreeTexts.{HasLineWithin, PrintsForm, PrintsTree, ReadsForm};
+ghost use Rattle.promql_lines.specs.TreeTexts.{HasLineWithin, PrintsForm, PrintsTree};
 ghost use Rattle.promql_lines.specs.BatchSteps.{IsFormatOf, IsLineWithin};
 ghost use Rattle.promql_rewrite.specs.Parenthesizing as spec;
 ghost use Rattle.promql_run.specs.declared.format.Format as formats;
@@ -10,28 +10,13 @@ ghost use Rattle.promql_span.specs.declared.limits.Limits as spans;
 
 use crate::limit_checks::limit_fault;
 use crate::query_error::QueryError;
+use crate::read_form::read_form;
 use promql_ast::{Expr, drop_expr};
-use promql_from_json::{FromJsonError, from_json_text};
 use promql_json::{JsonError, json_text};
 use promql_rewrite::{NotFaithful, faithful_pretty, parenthesized, why_not_printable};
 use promql_run::format::Format;
 use promql_span::limits::Limits;
 use std::alloc::Global;
-
-/// The tree whose form a text is.
-fn read_form(alloc: Global, form: &str) -> Result<Expr, QueryError>
-    ensures ok { IfOk result (λ e. ReadsForm form.now (Ok (tree_of e))) }
-    ensures err { IfErr result (λ e. ReadsForm form.now (Err e)) }
-{
-    match from_json_text(alloc, form) {
-        Ok(expr) => Ok(expr),
-        Err(FromJsonError::Memory) => Err(QueryError::Memory),
-        Err(FromJsonError::NotJson) => Err(QueryError::NotATree(FromJsonError::NotJson)),
-        Err(FromJsonError::Misfit(misfit)) => {
-            Err(QueryError::NotATree(FromJsonError::Misfit(misfit)))
-        }
-    }
-}
 
 /// The same tree, or with parentheses where it needs them.
 fn with_parens(alloc: Global, expr: Expr, parens: bool) -> Result<Expr, QueryError>
@@ -116,20 +101,22 @@ fn show_tree(
 ///
 /// # Errors
 ///
+/// `LargeForm` where the text has more than `max_tree` bytes, or its patterns are larger than those of a query may be; else
 /// `NotATree` where the text is the form of no tree; else `LargeTree` where the line of the tree is not within the limits;
 /// `NotPrintable` where the line would not mean the tree, with the reason; `Unfaithful` where the laid out text would not;
 /// `NoForm` where the tree has no form; `Memory` where an allocation failed.
 pub fn tree_text(
     alloc: Global,
     limits: &Limits,
+    max_tree: usize,
     format: Format,
     parens: bool,
     form: &str,
 ) -> Result<String, QueryError>
-    ensures ok { IfOk result (λ s. PrintsForm limits.now format parens form.now (Ok (string_bytes s))) }
-    ensures err { IfErr result (λ e. PrintsForm limits.now format parens form.now (Err e)) }
+    ensures ok { IfOk result (λ s. PrintsForm limits.now max_tree format parens form.now (Ok (string_bytes s))) }
+    ensures err { IfErr result (λ e. PrintsForm limits.now max_tree format parens form.now (Err e)) }
 {
-    let expr = with_parens(alloc, read_form(alloc, form)?, parens)?;
+    let expr = with_parens(alloc, read_form(alloc, limits, max_tree, form)?, parens)?;
     let text = show_tree(alloc, limits, format, &expr);
     drop_expr(expr);
     text

@@ -1,4 +1,4 @@
--- The status of a query that is not within its limits is that of no other error.
+-- The statuses of a query that is not within its limits, or that its target reads otherwise, are those of no other error.
 use Rattle.std.proofs.Common.{◌≡◌, ◌⊎◌, inl, inr, refl}
 use Rattle.promql_run.specs.Running.{error_number}
 use Rattle.promql_run.specs.declared.run.RunError.{RunError}
@@ -15,7 +15,16 @@ not_fourteen (Parse e) same = cc
 not_fourteen Write same = cc
 not_fourteen Json same = cc
 
--- a rejection has one of two statuses
-pub rejected_status : (r : Reason) → (reason_number r ≡ 4) ⊎ (reason_number r ≡ 14)
+pub not_twenty_three : (e : RunError) → ¬ (error_number e ≡ 23)
+not_twenty_three Memory same = cc
+not_twenty_three Read same = cc
+not_twenty_three NotUtf8 same = cc
+not_twenty_three (Parse e) same = cc
+not_twenty_three Write same = cc
+not_twenty_three Json same = cc
+
+-- a rejection has one of three statuses
+pub rejected_status : (r : Reason) → (reason_number r ≡ 4) ⊎ (reason_number r ≡ 14) ⊎ (reason_number r ≡ 23)
 rejected_status (reasons.Parse e) = inl refl
-rejected_status (reasons.Limit f) = inr refl
+rejected_status (reasons.Limit f) = inr (inl refl)
+rejected_status reasons.Otherwise = inr (inr refl)

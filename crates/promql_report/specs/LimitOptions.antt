@@ -7,7 +7,9 @@ use Rattle.std.specs.Option.{option_map_or}
 use Rattle.std.specs.Str.Parse.{digits_value, without_leading_plus}
 use Rattle.promql_text.specs.Texts.{Text}
 use Rattle.promql_run.specs.Programs.{Command, run, show}
+use Rattle.promql_span.specs.Targets.{target_named}
 use Rattle.promql_span.specs.declared.limits.Limits.{Limits}
+use Rattle.promql_span.specs.declared.target.Target.TheVariants.{Prometheus}
 
 -- "Help and version": one of these texts, if its option is the only word after the program's own name
 abbrev pub asked_text : Text → Text → List Text → Option Text
@@ -26,17 +28,22 @@ number_in v =
     if nat_lt 0 (length ds) && (list_all (λ b. nat_lt (digit_value b) 10) ds && nat_lt (digits_value 10 ds) (2 ^ 64)) then Some (digits_value 10 ds)
     else None
 
-abbrev pub with_option : Limits → Text → ℕ → Option Limits
-with_option limits name n = lookup (bytes_eq name)
+abbrev pub with_number : Limits → Text → ℕ → Option Limits
+with_number limits name n = lookup (bytes_eq name)
     ((codes "--max-len", record limits { max_len = n }) ∷ (codes "--max-patterns", record limits { max_pattern_size = n })
     ∷ (codes "--max-output", record limits { max_output = n }) ∷ [])
 
--- options, each with its number; the last of one name counts
+-- "Targets": a target by its name, or an option with a number
+abbrev pub with_option : Limits → Text → Text → Option Limits
+with_option limits name value =
+    if bytes_eq name (codes "--target") then option_map (λ target. record limits { target = target }) (target_named value)
+    else option_and_then (with_number limits name) (number_in value)
+
+-- options, each with its value; the last of one name counts
 abbrev pub limits_with : Limits → List Text → Option Limits
 limits_with limits [] = Some limits
 limits_with limits (name ∷ []) = None
-limits_with limits (name ∷ value ∷ words) =
-    option_and_then (λ n. option_and_then (λ changed. limits_with changed words) (with_option limits name n)) (number_in value)
+limits_with limits (name ∷ value ∷ words) = option_and_then (λ changed. limits_with changed words) (with_option limits name value)
 
 abbrev pub default_limits : Limits
-default_limits = record { max_len = 32768; max_pattern_size = 16000; max_output = 4194304 }
+default_limits = record { max_len = 32768; max_pattern_size = 16000; max_output = 4194304; target = Prometheus }

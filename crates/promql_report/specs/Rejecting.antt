@@ -1,11 +1,12 @@
 -- Why and where a query is rejected (docs/reference/programs.md, "Errors").
-use Rattle.std.specs.Prelude.{◌≡◌, ◌≤◌, ℕ, MatchOption, Option, Some, None, Ok, Err}
+use Rattle.std.specs.Prelude.{◌≡◌, ℕ, MatchOption, Option, Some, None, Ok, Err}
 use Rattle.promql_span.specs.Locations.{location_of}
 use Rattle.promql_text.specs.Texts.{Text}
 use Rattle.promql_ast.specs.Tree.{Tree}
 use Rattle.promql_span.specs.ErrorPlaces.{IsPlaceOf}
 use Rattle.promql_span.specs.PlacedTokens.{end_of}
-use Rattle.promql_span.specs.QueryLimits.{IsLimitFault, IsWithin, patterns_size}
+use Rattle.promql_span.specs.QueryLimits.{IsLimitFault, IsWithin}
+use Rattle.promql_span.specs.Targets.{difference}
 use Rattle.promql_span.specs.Unexpected.{IsUnexpected, unexpected_text}
 use Rattle.promql_span.specs.declared.unexpected.Unexpected.{Unexpected}
 use Rattle.promql_span.specs.declared.limits.LimitFault.{LimitFault}
@@ -14,14 +15,15 @@ use Rattle.promql_span.specs.declared.limits.Limits.{Limits}
 use Rattle.promql_span.specs.declared.span.Span.{Span}
 use Rattle.promql_syntax.specs.ParseAnswers.{IsAnswerTo, plain_error_of}
 use Rattle.promql_syntax.specs.declared.parser.ParseError.TheVariants.{Syntax, TooDeep}
-use Rattle.promql_report.specs.declared.rejection.TheConstants.{MAX_EXPECTED_PATTERN_SIZE, PLAIN_SYNTAX_ERROR, TOO_MANY_LEVELS}
+use Rattle.promql_report.specs.declared.rejection.TheConstants.{PLAIN_SYNTAX_ERROR, TOO_MANY_LEVELS}
 use Rattle.promql_report.specs.declared.rejection.Reason.{Reason}
-use Rattle.promql_report.specs.declared.rejection.Reason.TheVariants.{Limit, Parse}
+use Rattle.promql_report.specs.declared.rejection.Reason.TheVariants.{Limit, Otherwise, Parse}
 use Rattle.promql_report.specs.declared.rejection.Rejection.{Rejection}
 
 abbrev pub reason_number : Reason → ℕ
 reason_number (Parse e) = 4
 reason_number (Limit fault) = 14
+reason_number Otherwise = 23
 
 -- a query that is too long is rejected at its end
 abbrev pub limit_place : Text → LimitFault → Option Span
@@ -29,25 +31,21 @@ limit_place query Memory = None
 limit_place query (TooLong len most) = Some (end_of query)
 limit_place query (PatternsTooLarge size most place) = Some place
 
--- the query is not within its limits, or it is and the parser rejects it; and this part of it is the place
+-- the query is not within its limits, or it is and the parser rejects it, or its target reads this part otherwise; and that is the place
 -- (`IsPlaceOf` gives the error Memory no part)
 abbrev pub IsReason : Limits → Text → Reason → Span → Type 0
 IsReason limits query (Limit fault) span = IsLimitFault query limits fault × (limit_place query fault ≡ Some span)
+IsReason limits query Otherwise span = IsWithin query limits × ((t : Tree) × IsAnswerTo query (Ok t)) × (difference limits.target query ≡ Some span)
 IsReason limits query (Parse e) span = IsWithin query limits × IsAnswerTo query (Err (plain_error_of e)) × IsPlaceOf query e (Some span)
 
 -- this is why the query is rejected, at this part of it, and where that begins
 abbrev pub IsRejection : Limits → Text → Rejection → Type 0
 IsRejection limits query r = IsReason limits query r.reason r.span × (r.location ≡ location_of query r.span.start)
 
--- what was expected is told of a syntax error alone, and where the patterns of the query measure at most MAX_EXPECTED_PATTERN_SIZE
--- together
-abbrev pub TellsExpected : Text → Reason → Type 0
-TellsExpected query reason = (reason ≡ Parse Syntax) × (patterns_size query ≤ MAX_EXPECTED_PATTERN_SIZE)
-
--- this was found and expected at the place of the rejection, where that is told; else nothing is
+-- this was found and expected at the place of the rejection, where it is a syntax error; of any other nothing is told
 abbrev pub IsTold : Text → Rejection → Option Unexpected → Type 0
-IsTold query r (Some u) = TellsExpected query r.reason × IsUnexpected query r.span.start u
-IsTold query r None = ¬ TellsExpected query r.reason
+IsTold query r (Some u) = (r.reason ≡ Parse Syntax) × IsUnexpected query r.span.start u
+IsTold query r None = ¬ (r.reason ≡ Parse Syntax)
 
 -- the message for people without that; others are those of their reasons
 abbrev pub IsPlainMessage : Reason → Text → Type 0
@@ -60,9 +58,9 @@ abbrev pub IsMessage : Text → Rejection → Text → Type 0
 IsMessage query r message =
     (told : Option Unexpected) × IsTold query r told × MatchOption told (IsPlainMessage r.reason message) (λ u. message ≡ unexpected_text u)
 
--- the query is within its limits, and has this tree
+-- the query is within its limits, its target reads no part of it otherwise, and it has this tree
 abbrev pub IsRead : Limits → Text → Tree → Type 0
-IsRead limits query t = IsWithin query limits × IsAnswerTo query (Ok t)
+IsRead limits query t = (IsWithin query limits × (difference limits.target query ≡ None)) × IsAnswerTo query (Ok t)
 
 -- it has a tree
 abbrev pub IsParsed : Limits → Text → Type 0

@@ -35,9 +35,12 @@ pub const REJECTED_STATUS: u8 = 4;
 /// The status where the query is not within its limits.
 pub const LIMIT_STATUS: u8 = 14;
 
+/// The status where the target reads the query otherwise.
+pub const OTHERWISE_STATUS: u8 = 23;
+
 /// The line that is printed for wrong arguments, and the first of the help.
 pub const CHECK_USAGE: &str =
-    "usage: promql_check [FILE] [--color WHEN] [--max-len N] [--max-patterns N]\n";
+    "usage: promql_check [FILE] [--color WHEN] [--target NAME] [--max-len N] [--max-patterns N]\n";
 
 /// What the message of an accepted query begins with.
 const WARNING: &str = "warning: ";
@@ -53,22 +56,23 @@ pub const CHECK_VERSION: &str = "promql_check 0.5.0\n";
 
 /// What `--help` prints.
 pub const CHECK_HELP: &str =
-    "usage: promql_check [FILE] [--color WHEN] [--max-len N] [--max-patterns N]
+    "usage: promql_check [FILE] [--color WHEN] [--target NAME] [--max-len N] [--max-patterns N]
        promql_check -h | --help | --version
 
 Reads a PromQL query from FILE, or from standard input. Prints nothing where it is
 accepted; otherwise, to standard error, the line and the column of the error, its
 message, and the line of the query with a mark below. An escape of a byte past
-ASCII is accepted with a warning, since it means something else to Prometheus. A
-line feed at the end of the input is no part of the query. A query of more than
---max-len bytes (32768), or with patterns that are together larger than
---max-patterns (16000), is rejected before it is parsed. Messages have colours with
---color always, none with --color never, and otherwise (auto) on a terminal where
-NO_COLOR is not set.
+ASCII is rejected, since it means something else to Prometheus; with --target rules
+it is accepted with a warning. A line feed at the end of the input is no part of
+the query. A query of more than --max-len bytes (32768), or with patterns that are
+together larger than --max-patterns (16000), is rejected before it is parsed.
+Messages have colours with --color always, none with --color never, and otherwise
+(auto) on a terminal where NO_COLOR is not set.
 
 Status: 0 the query is accepted, 4 it is rejected, 14 it is too long or its
-patterns are too large, 1 out of memory, 2 a read failed, 3 the input is not
-UTF-8, 5 a write failed, 64 wrong arguments, 141 nobody reads what is written.
+patterns are too large, 23 the target (prometheus-3) reads it otherwise, 1 out of
+memory, 2 a read failed, 3 the input is not UTF-8, 5 a write failed, 64 wrong
+arguments, 141 nobody reads what is written.
 ";
 
 /// What a check found of a query.
@@ -258,14 +262,14 @@ pub fn check_program<R: Read, W: Write, E: Write>(
         × (errors.new.failed ≡ false
         → Appends (E.contents errors.old.inner) (E.contents errors.new.inner) warning)) }
     ensures rejected { (settings : checks.CheckSettings) → check_command usual (map string_bytes args.now)
-        ≡ Some (run settings) → (result ≡ REJECTED_STATUS) ⊎ (result ≡ LIMIT_STATUS) → (report : Text)
+        ≡ Some (run settings) → (result ≡ REJECTED_STATUS) ⊎ (result ≡ LIMIT_STATUS) ⊎ (result ≡ OTHERWISE_STATUS) → (report : Text)
         × HasQuery (IsReported settings result report) (R.remaining reader.old.inner) (R.remaining reader.new.inner)
         × (errors.new.failed ≡ false
         → Appends (E.contents errors.old.inner) (E.contents errors.new.inner) report) }
     // Each other status is that of an error.
     ensures known { (settings : checks.CheckSettings) → check_command usual (map string_bytes args.now)
         ≡ Some (run settings) → (result ≡ 0) ⊎ (result ≡ 1) ⊎ (result ≡ 2) ⊎ (result ≡ 3)
-        ⊎ (result ≡ REJECTED_STATUS) ⊎ (result ≡ LIMIT_STATUS) }
+        ⊎ (result ≡ REJECTED_STATUS) ⊎ (result ≡ LIMIT_STATUS) ⊎ (result ≡ OTHERWISE_STATUS) }
 {
     if let Some(text) = asked_text(args, CHECK_HELP, CHECK_VERSION) {
         return show_text(writer, text);

@@ -1,15 +1,16 @@
 //! The tree of a query, or why and where it is rejected.
 
-ghost use Rattle.std.specs.Prelude.{◌≡◌, ◌≤◌, IfOk, MatchResult, not, string_bytes};
+ghost use Rattle.std.specs.Prelude.{◌≡◌, IfOk, MatchResult, Ok, string_bytes};
 ghost use Rattle.std.specs.Bool.{Decides};
 ghost use Rattle.promql_ast.specs.View.{tree_of};
 ghost use Rattle.promql_span.specs.Locations.{location_of};
-ghost use Rattle.promql_span.specs.QueryLimits.{patterns_size};
+ghost use Rattle.promql_span.specs.QueryLimits.{IsWithin};
+ghost use Rattle.promql_syntax.specs.ParseAnswers.{IsAnswerTo};
 ghost use Rattle.promql_syntax.specs.declared.parser.ParseError.TheVariants as parse_errors;
 ghost use Rattle.promql_report.specs.declared.rejection.Reason.TheVariants as reasons;
 ghost use Rattle.promql_report.specs.Rejecting.{IsMessage, IsPlainMessage, IsRead, IsRejection, IsTold, limit_place, reason_number};
 
-use promql_ast::Expr;
+use promql_ast::{Expr, drop_expr};
 use promql_span::diagnosis::{Diagnosis, diagnose};
 use promql_span::limits::{LimitFault, Limits, check_limits};
 use promql_span::unexpected::{Unexpected, unexpected_at};
@@ -27,6 +28,9 @@ pub enum Reason {
     /// It is not within its limits, and nothing else of it was read.
     #[error("{0}")]
     Limit(LimitFault),
+    /// It is read, and its target reads it otherwise.
+    #[error("Prometheus reads this otherwise: the escape is a byte there, and a character here")]
+    Otherwise,
 }
 
 impl Reason {
@@ -37,6 +41,7 @@ impl Reason {
         match self {
             Reason::Parse(_) => 4,
             Reason::Limit(_) => 14,
+            Reason::Otherwise => 23,
         }
     }
 
@@ -75,9 +80,6 @@ pub struct Rejection {
     pub location: Location,
 }
 
-/// The greatest sum of the measures of a query's patterns with which it is told what was expected.
-pub const MAX_EXPECTED_PATTERN_SIZE: usize = 640;
-
 /// The message of a syntax error where it does not tell what was expected.
 pub const PLAIN_SYNTAX_ERROR: &str = "invalid promql query";
 
@@ -87,7 +89,7 @@ pub const TOO_MANY_LEVELS: &str =
 
 impl Rejection {
     /// What was found and what was expected at a syntax error (docs/reference/grammar.md, "What is expected"); `None` of any other
-    /// error, and of a query with large patterns. `query` is the query that it is of.
+    /// error. `query` is the query that it is of.
     ///
     /// # Errors
     ///
@@ -99,7 +101,7 @@ impl Rejection {
     ) -> Result<Option<Unexpected<'a>>, AllocError>
         ensures { IfOk result (IsTold query.now self.now) }
     {
-        if !self.reason.is_syntax() || has_large_patterns(alloc, query)? {
+        if !self.reason.is_syntax() {
             return Ok(None);
         }
         Ok(Some(unexpected_at(alloc, query, self.span.start)?))
@@ -121,23 +123,8 @@ impl Rejection {
     }
 }
 
-/// Whether the patterns of a query are too dear to be compiled once for each kind of token.
-fn has_large_patterns(alloc: Global, query: &str) -> Result<bool, AllocError>
-    ensures { IfOk result (λ large. Decides (not large) (patterns_size query.now ≤ MAX_EXPECTED_PATTERN_SIZE)) }
-{
-    let limits = Limits {
-        max_len: query.len(),
-        max_pattern_size: MAX_EXPECTED_PATTERN_SIZE,
-        max_output: 0,
-    };
-    match check_limits(alloc, query, &limits) {
-        Ok(()) => Ok(false),
-        Err(LimitFault::Memory) => Err(AllocError),
-        Err(_) => Ok(true),
-    }
-}
-
-/// The tree of a query, or why and where it is rejected. A query that is not within its limits is not parsed.
+/// The tree of a query, or why and where it is rejected. A query that is not within its limits is not parsed. One that its target
+/// reads otherwise is rejected at the first part that it does.
 ///
 /// # Errors
 ///
@@ -153,14 +140,28 @@ pub fn read_query(
         let span = limit_span(query, fault).ok_or(AllocError)?;
         return Ok(Err(rejection_at(query, Reason::Limit(fault), span)));
     }
-    let Diagnosis { error, span } = match diagnose(alloc, query) {
-        Ok(expr) => return Ok(Ok(expr)),
-        Err(diagnosis) => diagnosis,
-    };
-    let Some(span) = span else {
-        return Err(AllocError);
-    };
-    Ok(Err(rejection_at(query, Reason::Parse(error), span)))
+    match diagnose(alloc, query) {
+        Ok(expr) => Ok(for_target(limits, query, expr)),
+        Err(Diagnosis { error, span }) => match span {
+            Some(span) => Ok(Err(rejection_at(query, Reason::Parse(error), span))),
+            None => Err(AllocError),
+        },
+    }
+}
+
+/// The tree of a query that is within its limits, or the first part of the query that its target reads otherwise.
+fn for_target(limits: &Limits, query: &str, expr: Expr) -> Result<Expr, Rejection>
+    requires within { IsWithin query.now limits.now }
+    requires answer { IsAnswerTo query.now (Ok (tree_of expr)) }
+    ensures { MatchResult result (λ e. IsRead limits.now query.now (tree_of e)) (IsRejection limits.now query.now) }
+{
+    match limits.target.difference(query) {
+        None => Ok(expr),
+        Some(span) => {
+            drop_expr(expr);
+            Err(rejection_at(query, Reason::Otherwise, span))
+        }
+    }
 }
 
 /// The part of a query that a fault is about; `None` where an allocation failed.

@@ -9,6 +9,7 @@ mod options;
 mod program;
 mod runs;
 mod streams;
+mod trees;
 
 use std::alloc::{AllocError, Global};
 use std::fmt::Debug;

@@ -8,6 +8,7 @@ use promql_lines::settings::Settings;
 use promql_run::ended::Ended;
 use promql_run::format::Format;
 use promql_run::run::RunError;
+use promql_span::Target;
 use promql_span::limits::{Limits, MAX_LEN, MAX_OUTPUT, MAX_PATTERN_SIZE};
 use std::alloc::Global;
 use std::io;
@@ -21,6 +22,7 @@ const LINE: Settings = Settings {
         max_len: MAX_LEN,
         max_pattern_size: MAX_PATTERN_SIZE,
         max_output: MAX_OUTPUT,
+        target: Target::Prometheus,
     },
 };
 

@@ -207,7 +207,7 @@ type ColorRow = (
     &'static str,
 );
 
-const COLOR_ROWS: [ColorRow; 11] = [
+const COLOR_ROWS: [ColorRow; 13] = [
     (
         &[""],
         false,
@@ -244,14 +244,39 @@ const COLOR_ROWS: [ColorRow; 11] = [
         "\x1b[1m1:2:\x1b[0m unexpected character: '\\x1b'\na\\x1b\n \x1b[1;32m^~~~\x1b[0m\n",
     ),
     (
-        &["", "--color", "always", "--color", "auto"],
+        &[
+            "", "--color", "always", "--target", "rules", "--color", "auto",
+        ],
         false,
         b"\"\\xc3\"",
         0,
         "1:2: warning: this escape is a character here, and a byte in Prometheus\n\"\\xc3\"\n ^~~~\n",
     ),
     (
-        &["", "--max-len", "9", "--color", "always"],
+        &[
+            "",
+            "--max-len",
+            "9",
+            "--color",
+            "always",
+            "--target",
+            "prometheus-3",
+        ],
+        false,
+        b"\"\\xc3\"",
+        23,
+        "\x1b[1m1:2:\x1b[0m Prometheus reads this otherwise: the escape is a byte there, and a character here\n\"\\xc3\"\n \x1b[1;32m^~~~\x1b[0m\n",
+    ),
+    (
+        &[
+            "",
+            "--max-len",
+            "9",
+            "--color",
+            "always",
+            "--target",
+            "rules",
+        ],
         false,
         b"\"\\xc3\"",
         0,
@@ -273,6 +298,7 @@ const COLOR_ROWS: [ColorRow; 11] = [
     ),
     (&["", "--color", "sometimes"], true, b"1", 64, CHECK_USAGE),
     (&["", "--color"], true, b"1", 64, CHECK_USAGE),
+    (&["", "--target", "prometheus"], true, b"1", 64, CHECK_USAGE),
 ];
 
 /// The program with these options and this setting says what the row says.

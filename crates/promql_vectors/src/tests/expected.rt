@@ -44,6 +44,8 @@ a + fill(b) c => identifier "b", expected number, "+" or "-"
 a + fill_left(1) fill_left(1) b => "fill_left", expected expression or "fill_right"
 sum by job (foo) => identifier "job", expected "("
 sum by (job 1) (foo) => number "1", expected "," or ")"
+sum by ('a' 'b') (foo) => string 'b', expected "," or ")"
+{a=~'(', b!~`[`} c => identifier "c", expected NODE or end of query; an operator is missing before it
 by (job) sum(foo) => "(", expected "{", NODE or end of query; a grouping follows its aggregation, as in sum by (job) (foo)
 sum foo => identifier "foo", expected "{", "[", "(", operator, "@", "by", "offset", "smoothed", "anchored", "without" or end of query; an aggregation has its arguments in parentheses
 sum(foo) by job => identifier "job", expected "("

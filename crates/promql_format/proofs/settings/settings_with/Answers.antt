@@ -1,8 +1,7 @@
-use Rattle.std.proofs.Common.{◌-◌, ◌∙◌, ap, sym, length, drop, take, map, string_bytes}
+use Rattle.std.proofs.Common.{◌-◌, ◌∙◌, ap, ap₂, sym, length, drop, take, map, string_bytes}
 use Rattle.std.proofs.lemmas.List.{take_rest}
-use Rattle.promql_report.specs.LimitOptions.{number_in}
-use Rattle.promql_format.specs.Settings.{is_flag, settings_with, with_flag, with_number}
-use Rattle.promql_format.proofs.OptionSteps.{one_flag, one_number}
+use Rattle.promql_format.specs.Settings.{is_flag, settings_with, with_flag, with_option}
+use Rattle.promql_format.proofs.OptionSteps.{one_flag, one_option}
 use Rattle.promql_format.proofs.settings.settings_with.Goals as goal
 
 pub loop-rest-preserved-then-is_flag : goal.loop-rest-preserved-then-is_flag
@@ -19,10 +18,10 @@ pub loop-rest-preserved : goal.loop-rest-preserved
 loop-rest-preserved c =
     let s = c.loop-rest.changed in
     let words = c.loop-rest.rest.now in
-    let n = c.in_ok-number_in.field-0 in
     let is = ap is_flag (sym c.as_str.ensures.value) ∙ sym c.is_flag.ensures ∙ c.if-is_flag.false in
-    let read = ap number_in (sym c.as_str-else-is_flag-2.ensures.value) ∙ sym c.number_in.ensures ∙ c.in_ok-number_in.was in
-    let changes = ap (λ name. with_number s name n) (sym c.as_str-else-is_flag.ensures.value) ∙ sym c.with_number.ensures ∙ c.in_ok-changed.was in
-    one_number s c.in_ok-changed.changed words (take (length words - 1) (drop 1 words)) c.word-item.result c.value-item.result n (take_rest words 1)
-    c.in-len1-up-after.len_at_least c.word-item.is c.value-item.is is read changes
+    let changes =
+    ap₂ (with_option s) (sym c.as_str-else-is_flag.ensures.value) (sym c.as_str-else-is_flag-2.ensures.value)
+    ∙ sym c.with_option.ensures ∙ c.in_ok-changed.was in
+    one_option s c.in_ok-changed.changed words (take (length words - 1) (drop 1 words)) c.word-item.result c.value-item.result (take_rest words 1)
+    c.in-len1-up-after.len_at_least c.word-item.is c.value-item.is is changes
     ∙ c.loop-rest.invariant

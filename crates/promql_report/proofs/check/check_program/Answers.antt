@@ -6,7 +6,7 @@ use Rattle.promql_report.specs.CheckedInputs.{IsChecked}
 use Rattle.promql_report.specs.CheckSettings.{settings_of}
 use Rattle.promql_report.specs.declared.check.TheConstants.{CHECK_HELP, CHECK_VERSION}
 use Rattle.promql_report.proofs.CheckAnswers.{one_setting, warned, written_unless_failed}
-use Rattle.promql_report.proofs.LimitStatus.{not_fourteen}
+use Rattle.promql_report.proofs.LimitStatus.{not_fourteen, not_twenty_three}
 use Rattle.promql_report.proofs.check.check_program.Goals as goal
 
 pub returns-in-Ok-Warned-clause-accepted : goal.returns-in-Ok-Warned-clause-accepted
@@ -28,5 +28,7 @@ returns-in-Err-clause-rejected g c = λ settings asked status. ⊎_elim
     (λ four.
     let found = four_is_parse c.in-Err.error (sym c.number.ensures ∙ four) in
     absurd (subst IsInputError found.1 c.in-Err.ensures.errors))
+    (⊎_elim
     (λ fourteen. absurd (not_fourteen c.in-Err.error (sym c.number.ensures ∙ fourteen)))
+    (λ more. absurd (not_twenty_three c.in-Err.error (sym c.number.ensures ∙ more))))
     status

@@ -2,6 +2,7 @@
 
 use crate::tests::{is_so, prints};
 use promql_formatter::{FormatError, FormatOptions, format_query};
+use promql_span::limits::MAX_OUTPUT;
 use std::alloc::Global;
 
 /// A query, a width, and the layout.
@@ -86,6 +87,7 @@ fn indentation_has_its_width(rt: HostRuntime) {
         width: 8,
         indent_width: 4,
         keep_spelling: false,
+        max_output: MAX_OUTPUT,
     };
     let layout = format_query(rt.alloc(), "sum(sum(aaaa))", &options);
     prints(&rt, layout, "sum(\n    sum(\n    aaaa\n    )\n)");
