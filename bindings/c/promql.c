@@ -11,17 +11,20 @@
 static atomic_size_t max_len = 32768;
 static atomic_size_t max_pattern_size = 16000;
 static atomic_size_t max_output = 4194304;
+static _Atomic uint32_t target = PROMQL_PROMETHEUS_3;
+static atomic_size_t max_tree = 4194304;
 
-/* `Limits` of crates/promql_span. */
+/* `CallLimits` of crates/promql_c. */
 struct limits {
     size_t max_len;
     size_t max_pattern_size;
     size_t max_output;
+    uint32_t target;
 };
 
 static struct limits limits_now(void)
 {
-    return (struct limits){max_len, max_pattern_size, max_output};
+    return (struct limits){max_len, max_pattern_size, max_output, target};
 }
 
 /* What crates/promql_c exports. A slice of Rattle is a pointer that is not NULL, and a length of at most PTRDIFF_MAX. */
@@ -46,7 +49,7 @@ void call_snippet(const void *query, size_t query_length, size_t start, size_t e
                   struct promql_result *result);
 void call_format(const struct limits *limits, const void *query, size_t query_length, size_t width, size_t indent_width,
                  uint32_t keep_spelling, void *buffer, size_t buffer_size, struct promql_result *result);
-void call_print_tree(const struct limits *limits, const void *tree, size_t tree_length, uint32_t mode,
+void call_print_tree(const struct limits *limits, size_t max_tree, const void *tree, size_t tree_length, uint32_t mode,
                      uint32_t level, size_t width, uint32_t parentheses, void *buffer, size_t buffer_size,
                      struct promql_result *result);
 void call_version(void *buffer, size_t buffer_size, struct promql_result *result);
@@ -251,7 +254,7 @@ uint32_t promql_print_tree(const char *tree, size_t tree_length, uint32_t mode, 
     if (status != PROMQL_OK)
         return refuse(status, result);
     struct limits limits = limits_now();
-    call_print_tree(&limits, start_of(tree), tree_length, mode, level, width, parentheses, room_of(buffer),
+    call_print_tree(&limits, max_tree, start_of(tree), tree_length, mode, level, width, parentheses, room_of(buffer),
                     buffer_size, result);
     return result->status;
 }
@@ -265,6 +268,19 @@ void promql_set_limits(size_t len, size_t pattern_size)
 void promql_set_max_output(size_t bytes)
 {
     max_output = bytes;
+}
+
+uint32_t promql_set_target(uint32_t number)
+{
+    if (number > PROMQL_RULES)
+        return PROMQL_UNKNOWN_MODE;
+    target = number;
+    return PROMQL_OK;
+}
+
+void promql_set_max_tree(size_t bytes)
+{
+    max_tree = bytes;
 }
 
 uint32_t promql_version(char *buffer, size_t buffer_size, struct promql_result *result)

@@ -15,11 +15,9 @@ static int has_print_tree(void)
 import "C"
 
 import (
-	"bytes"
 	"encoding/json"
 	"errors"
 	"strings"
-	"unicode/utf8"
 )
 
 // ErrNoPrintTree says that the library is an older one, which prints no trees.
@@ -139,127 +137,13 @@ func Print(expr Expr, options ...Option) (string, error) {
 	switch said.cause {
 	case ErrNotATree:
 		// (the form is JSON, but may be deeper than the library reads)
-		failed.Message = "nested too deeply"
+		failed.Message = tooDeep
 		if path, message, found := strings.Cut(said.message, ": "); found {
 			failed.Path, failed.Message, failed.Node = path, message, nodeAt(expr, path)
 		}
 	case ErrUnfaithful:
 		it := firstWithoutText(expr)
-		failed.Path, failed.Node = it.path, it.node
+		failed.Path, failed.Node = it.place.String(), it.node
 	}
 	return "", failed
-}
-
-// formOf returns the JSON form of a tree, once it was seen to have one.
-func formOf(expr Expr) ([]byte, error) {
-	for _, it := range placesIn("$", expr, nil) {
-		if it.node == nil {
-			return nil, &NodeError{it.path, "expected an expression", nil, ErrNotATree}
-		}
-		for _, text := range textsOf(it.node) {
-			// (json.Marshal would change it)
-			if !utf8.ValidString(text) {
-				return nil, &NodeError{it.path, ErrNotUTF8.Error(), it.node, ErrNotUTF8}
-			}
-		}
-	}
-	var form bytes.Buffer
-	encoder := json.NewEncoder(&form)
-	encoder.SetEscapeHTML(false)
-	if err := encoder.Encode(expr); err != nil {
-		return nil, &NodeError{"$", err.Error(), expr, ErrNotATree}
-	}
-	return form.Bytes(), nil
-}
-
-// textsOf returns the texts that an expression has, but for those of expressions below it.
-func textsOf(expr Expr) []string {
-	var texts []string
-	switch node := expr.(type) {
-	case *AggregateExpr:
-		texts = append([]string{node.Op}, node.Grouping...)
-	case *BinaryExpr:
-		texts = []string{node.Op}
-		if matching := node.VectorMatching; matching != nil {
-			texts = append(append(texts, matching.MatchingLabels...), matching.Include...)
-			for _, fill := range []*string{matching.FillValues.LHS, matching.FillValues.RHS} {
-				if fill != nil {
-					texts = append(texts, *fill)
-				}
-			}
-		}
-	case *Call:
-		if node.Func != nil {
-			texts = []string{node.Func.Name}
-		}
-	case *NumberLiteral:
-		texts = []string{node.Val}
-	case *StringLiteral:
-		texts = []string{node.Val}
-	}
-	if selection := SelectionOf(expr); selection != nil {
-		texts = []string{string(selection.Name)}
-		for _, group := range append([]Matchers{selection.Matchers}, selection.OrMatchers...) {
-			for _, matcher := range group {
-				texts = append(texts, matcher.Name, string(matcher.Type), matcher.Value)
-			}
-		}
-	}
-	return texts
-}
-
-// place is an expression with its path.
-type place struct {
-	path string
-	node Expr
-}
-
-// placesIn adds the places of an expression and of those below it, in the order of Walk.
-func placesIn(path string, expr Expr, found []place) []place {
-	found = append(found, place{path, expr})
-	switch node := expr.(type) {
-	case nil:
-	case *AggregateExpr:
-		if node.Param != nil {
-			found = placesIn(path+".param", node.Param, found)
-		}
-		found = placesIn(path+".expr", node.Expr, found)
-	case *BinaryExpr:
-		found = placesIn(path+".rhs", node.RHS, placesIn(path+".lhs", node.LHS, found))
-	case *Call:
-		for i, arg := range node.Args {
-			found = placesIn(path+"."+at("args", i), arg, found)
-		}
-	default:
-		for _, child := range expr.Children() {
-			found = placesIn(path+".expr", child, found)
-		}
-	}
-	return found
-}
-
-// nodeAt returns the expression at a path, or the last one on the way there.
-func nodeAt(expr Expr, path string) Expr {
-	last := expr
-	for _, it := range placesIn("$", expr, nil) {
-		if path == it.path || strings.HasPrefix(path, it.path+".") {
-			last = it.node
-		}
-	}
-	return last
-}
-
-// firstWithoutText returns the lowest expression that has no text, though all below it have one: that is where the fault is.
-func firstWithoutText(expr Expr) place {
-	places := placesIn("$", expr, nil)
-	for i := len(places) - 1; i > 0; i-- {
-		form, err := formOf(places[i].node)
-		if err == nil {
-			_, err = PrintTree(form, true)
-		}
-		if err != nil {
-			return places[i]
-		}
-	}
-	return places[0]
 }

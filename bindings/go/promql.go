@@ -27,6 +27,11 @@ import (
 var (
 	// ErrTooLarge says of a *QueryError that the query is too long, or that its patterns are too large together (SetLimits).
 	ErrTooLarge = errors.New("query is too large")
+	// ErrReadOtherwise says of a *QueryError that the target reads a part of the query otherwise (SetTarget), and of any other error that it
+	// reads a part of the matcher so, which such an error says.
+	ErrReadOtherwise = errors.New("the target reads it otherwise")
+	// ErrWideLayout says that the width of a layout for people is above 65,535. An error that is this one has the number.
+	ErrWideLayout = errors.New("the layout is too wide")
 	// ErrLevel says that the level of a layout is above 512.
 	ErrLevel = errors.New("level is above 512")
 	// ErrOutOfMemory says that an allocation of the library failed.
@@ -42,9 +47,9 @@ var (
 	// ErrNotATree says that a text is not JSON, or is the form of no tree. An error that is this one says where, as $.lhs.args[0].range, and
 	// what was expected there.
 	ErrNotATree = errors.New("the text is the form of no tree")
-	// ErrTooLargeTree says that the line of a tree is too long, or that its patterns are too large together (SetLimits). An error that is
-	// this one says which.
-	ErrTooLargeTree = errors.New("the line of the tree is not within the limits")
+	// ErrTooLargeTree says that the JSON form of a tree is too long (SetMaxTree), or its line is, or that its patterns are too large together
+	// (SetLimits). An error that is this one says which.
+	ErrTooLargeTree = errors.New("the tree is not within the limits")
 	// ErrBareInfo says that a query calls info without a second argument, so that no matcher limits the series that this reads.
 	ErrBareInfo = errors.New("info without a selector reads series that no matcher limits")
 	// ErrLargeEnforced says that a matcher, or the query with it, is too long, or that its patterns are too large together (SetLimits). An
@@ -77,7 +82,7 @@ type QueryError struct {
 	cause   error
 }
 
-// Unwrap returns ErrTooLarge where the query is not within its limits, and else nil.
+// Unwrap returns ErrTooLarge where the query is not within its limits, ErrReadOtherwise where the target reads it otherwise, and else nil.
 func (e *QueryError) Unwrap() error {
 	return e.cause
 }
@@ -176,7 +181,7 @@ func Format(query string, options ...Option) (string, error) {
 }
 
 // FormatQuery returns the query, laid out for people (docs/reference/formatting.md of the repository): comments stay, chains of operators are
-// flat, and a line has at most Width characters, its indentation counted, where it can be broken. With keepSpelling numbers, durations,
+// flat, and a line has at most Width characters, its indentation counted, where it can be broken: at most 65,535. With keepSpelling numbers, durations,
 // strings and the order of what is written stay, too. Level does nothing here. What is returned was read again, and has the query's
 // tree and comments.
 func FormatQuery(query string, keepSpelling bool, options ...Option) (string, error) {
@@ -188,9 +193,13 @@ func FormatQuery(query string, keepSpelling bool, options ...Option) (string, er
 	if keepSpelling {
 		kept = 1
 	}
-	return textOf(query, func(query *C.char, length C.size_t, buffer *C.char, size C.size_t, result *C.struct_promql_result) {
+	text, result := call(query, func(query *C.char, length C.size_t, buffer *C.char, size C.size_t, result *C.struct_promql_result) {
 		C.promql_format_query(query, length, C.size_t(made.width), 2, kept, buffer, size, result)
 	})
+	if result.status == C.PROMQL_UNKNOWN_MODE {
+		return "", explained{text, ErrWideLayout}
+	}
+	return textOrError(query, text, result)
 }
 
 // JSON returns the tree of the query in its JSON form (docs/reference/json.md of the repository), without a space.
@@ -333,10 +342,48 @@ func SetLimits(maxLen, maxPatterns uint) {
 	C.promql_set_limits(C.size_t(maxLen), C.size_t(maxPatterns))
 }
 
+// Target is what reads the queries that are sent on (docs/reference/programs.md of the repository, "Targets").
+type Target uint32
+
+const (
+	// Prometheus3 is a Prometheus, to which an escape of a byte past ASCII, as "\xc3", is a byte of a text.
+	Prometheus3 Target = C.PROMQL_PROMETHEUS_3
+	// Rules are the rules of this library alone, to which it is a character.
+	Rules Target = C.PROMQL_RULES
+)
+
+// ParseTarget returns the target of this name: "prometheus-3" or "rules".
+func ParseTarget(name string) (Target, error) {
+	switch name {
+	case "prometheus-3":
+		return Prometheus3, nil
+	case "rules":
+		return Rules, nil
+	}
+	return 0, fmt.Errorf("no target is called %q: prometheus-3, rules", name)
+}
+
+// SetTarget sets what reads each later query that Enforce, RenameMetric, RenameLabel and FormatQuery return and Check checks, in this
+// process: Prometheus3 before the first call. A query that it reads otherwise gives a *QueryError that is ErrReadOtherwise, and a matcher an
+// error that is it.
+func SetTarget(target Target) error {
+	if C.promql_set_target(C.uint32_t(target)) != C.PROMQL_OK {
+		return fmt.Errorf("no target has the number %d", target)
+	}
+	return nil
+}
+
 // SetMaxOutput sets how many bytes what Canonical, Format, JSON and PlacedJSON return has at most, in this process: 4,194,304 before the
 // first call. Where there are more the error is ErrLongOutput.
 func SetMaxOutput(bytes uint) {
 	C.promql_set_max_output(C.size_t(bytes))
+}
+
+// SetMaxTree sets how many bytes the JSON form of a tree that is printed has at most, in this process: 4,194,304 before the first call.
+// Where there are more, or its patterns are larger than those of a query may be, the error is ErrTooLargeTree, before anything of it is
+// compiled.
+func SetMaxTree(bytes uint) {
+	C.promql_set_max_tree(C.size_t(bytes))
 }
 
 // textOf makes a call and returns its text, or its error.
@@ -356,10 +403,16 @@ func textOrError(query, text string, result C.struct_promql_result) (string, err
 		return "", ErrNotUTF8
 	case C.PROMQL_UNKNOWN_MODE:
 		return "", ErrLevel
-	case C.PROMQL_REJECTED, C.PROMQL_TOO_LARGE:
+	case C.PROMQL_REJECTED, C.PROMQL_TOO_LARGE, C.PROMQL_READ_OTHERWISE:
+		if result.line == 0 {
+			return "", explained{text, ErrReadOtherwise}
+		}
 		var cause error
-		if result.status == C.PROMQL_TOO_LARGE {
+		switch result.status {
+		case C.PROMQL_TOO_LARGE:
 			cause = ErrTooLarge
+		case C.PROMQL_READ_OTHERWISE:
+			cause = ErrReadOtherwise
 		}
 		return "", &QueryError{
 			Message: text,

@@ -156,7 +156,7 @@ func TestExplain(t *testing.T) {
 		`foo{a=="b"}`:          {`unexpected "=", expected string; a matcher has one "="`, []string{"string"}, `"="`},
 		"sum by (job 1) (foo)": {`unexpected number "1", expected "," or ")"`, []string{`","`, `")"`}, `number "1"`},
 		"nosuch(1)":            {Message: "unknown function with name 'nosuch'"},
-		`foo{a=~"\\w{690}"} b`: {Message: "invalid promql query"},
+		`foo{a=~"\\w{690}"b}`:  {`unexpected identifier "b", expected ",", "}" or "or"`, []string{`","`, `"}"`, `"or"`}, `identifier "b"`},
 		`a{b=~"c{3000}"}`:      {Message: "patterns are too large: 39013, at most 16000"},
 	} {
 		if got := rejection(t, query).Explain(); !reflect.DeepEqual(got, want) {
@@ -324,6 +324,68 @@ func TestLongOutput(t *testing.T) {
 	}
 }
 
+func TestTargets(t *testing.T) {
+	query := `a{b="\xc3\xa9"}`
+	calls := map[string]func() (string, error){
+		"Check":        func() (string, error) { return "", promql.Check(query) },
+		"Enforce":      func() (string, error) { return promql.Enforce(query, "c='1'") },
+		"RenameMetric": func() (string, error) { return promql.RenameMetric(query, "a", "a") },
+		"FormatQuery":  func() (string, error) { return promql.FormatQuery(query, false) },
+	}
+	for name, call := range calls {
+		var rejected *promql.QueryError
+		if _, err := call(); !errors.Is(err, promql.ErrReadOtherwise) || !errors.As(err, &rejected) || rejected.Column != 6 {
+			t.Errorf("%s: %v", name, err)
+		}
+	}
+	var rejected *promql.QueryError
+	if _, err := promql.Enforce("a", `b="\xc3"`); !errors.Is(err, promql.ErrReadOtherwise) || errors.As(err, &rejected) {
+		t.Error(err)
+	}
+	if err := promql.SetTarget(2); err == nil {
+		t.Error("a target with the number 2")
+	}
+	if err := promql.SetTarget(promql.Rules); err != nil {
+		t.Fatal(err)
+	}
+	defer func() {
+		if err := promql.SetTarget(promql.Prometheus3); err != nil {
+			t.Error(err)
+		}
+	}()
+	for name, call := range calls {
+		if _, err := call(); err != nil {
+			t.Errorf("%s: %v", name, err)
+		}
+	}
+}
+
+func TestLongTree(t *testing.T) {
+	form := []byte(`{"type":"numberLiteral","val":"1"}`)
+	promql.SetMaxTree(33)
+	defer promql.SetMaxTree(4194304)
+	_, err := promql.PrintTree(form, false)
+	if !errors.Is(err, promql.ErrTooLargeTree) || err.Error() != "tree is too long: 34 bytes, at most 33" {
+		t.Error(err)
+	}
+	promql.SetMaxTree(34)
+	if got, err := promql.PrintTree(form, false); err != nil || got != "1" {
+		t.Errorf("%q, %v", got, err)
+	}
+}
+
+// No pattern of a tree is compiled where they are too large together, and none where the text is no tree.
+func TestLargePatternsOfTrees(t *testing.T) {
+	for form, said := range map[string]string{
+		`{"type":"=~","value":"c{3000}"}`:                                     "patterns are too large: 39013, at most 16000",
+		`[{"type":"=~","value":"c{1000}"},[{"type":"!~","value":"c{1000}"}]]`: "patterns are too large: 26026, at most 16000",
+	} {
+		if _, err := promql.PrintTree([]byte(form), false); !errors.Is(err, promql.ErrTooLargeTree) || err.Error() != said {
+			t.Errorf("%s: %v", form, err)
+		}
+	}
+}
+
 func TestVersion(t *testing.T) {
 	if got := promql.Version(); got != "0.5.0" {
 		t.Error(got)
@@ -355,6 +417,15 @@ func FuzzQueries(f *testing.F) {
 	for _, query := range []string{long, "", "1 +", "foo\xff", "{a=~'('}", `"\xff"`, "-(1)^2"} {
 		f.Add(query, uint(20), uint16(1))
 	}
+	// (Prometheus reads a byte escape otherwise, which not all of these ask)
+	if err := promql.SetTarget(promql.Rules); err != nil {
+		f.Fatal(err)
+	}
+	f.Cleanup(func() {
+		if err := promql.SetTarget(promql.Prometheus3); err != nil {
+			f.Error(err)
+		}
+	})
 	f.Fuzz(func(t *testing.T, query string, width uint, level uint16) {
 		line, err := promql.Canonical(query)
 		if checked := promql.Check(query); (checked == nil) != (err == nil) {

@@ -108,8 +108,11 @@ type Selection struct {
 	Times
 }
 
-// AddMatcher adds a matcher: to each group, where there are groups.
+// AddMatcher adds a matcher: to each group, where there are groups. It does nothing with no selection.
 func (s *Selection) AddMatcher(matcher Matcher) {
+	if s == nil {
+		return
+	}
 	if len(s.OrMatchers) == 0 {
 		s.Matchers = append(s.Matchers, matcher)
 	}
@@ -120,6 +123,9 @@ func (s *Selection) AddMatcher(matcher Matcher) {
 
 // SelectionOf returns the selection of a *VectorSelector or a *MatrixSelector, which is changed in place, and nil for any other expression.
 func SelectionOf(expr Expr) *Selection {
+	if isMissing(expr) {
+		return nil
+	}
 	switch node := expr.(type) {
 	case *VectorSelector:
 		return &node.Selection
@@ -279,8 +285,11 @@ func NewNumber(value float64) *NumberLiteral {
 	return &NumberLiteral{Val: strconv.FormatFloat(value, 'f', -1, 64)}
 }
 
-// Float returns the value of the number, rounded where it has more digits.
+// Float returns the value of the number, rounded where it has more digits, and not a number where it is none.
 func (e *NumberLiteral) Float() float64 {
+	if e == nil {
+		return math.NaN()
+	}
 	value, err := strconv.ParseFloat(e.Val, 64)
 	if err != nil && math.Abs(value) <= math.MaxFloat64 {
 		return math.NaN()
@@ -291,11 +300,54 @@ func (e *NumberLiteral) Float() float64 {
 // ---- children
 
 func (e *AggregateExpr) Children() []Expr {
+	if e == nil {
+		return nil
+	}
 	if e.Param != nil {
 		return []Expr{e.Param, e.Expr}
 	}
 	return []Expr{e.Expr}
 }
+
+func (e *BinaryExpr) Children() []Expr {
+	if e == nil {
+		return nil
+	}
+	return []Expr{e.LHS, e.RHS}
+}
+
+func (e *Call) Children() []Expr {
+	if e == nil {
+		return nil
+	}
+	return append([]Expr(nil), e.Args...)
+}
+
+func (e *ParenExpr) Children() []Expr {
+	if e == nil {
+		return nil
+	}
+	return []Expr{e.Expr}
+}
+
+func (e *SubqueryExpr) Children() []Expr {
+	if e == nil {
+		return nil
+	}
+	return []Expr{e.Expr}
+}
+
+func (e *UnaryExpr) Children() []Expr {
+	if e == nil {
+		return nil
+	}
+	return []Expr{e.Expr}
+}
+
+func (e *MatrixSelector) Children() []Expr { return nil }
+func (e *NumberLiteral) Children() []Expr  { return nil }
+func (e *StringLiteral) Children() []Expr  { return nil }
+func (e *VectorSelector) Children() []Expr { return nil }
 
 func (e *AggregateExpr) setChildren(children []Expr) {
 	if e.Param != nil {
@@ -303,16 +355,6 @@ func (e *AggregateExpr) setChildren(children []Expr) {
 	}
 	e.Expr = children[len(children)-1]
 }
-
-func (e *BinaryExpr) Children() []Expr     { return []Expr{e.LHS, e.RHS} }
-func (e *Call) Children() []Expr           { return append([]Expr(nil), e.Args...) }
-func (e *MatrixSelector) Children() []Expr { return nil }
-func (e *NumberLiteral) Children() []Expr  { return nil }
-func (e *ParenExpr) Children() []Expr      { return []Expr{e.Expr} }
-func (e *StringLiteral) Children() []Expr  { return nil }
-func (e *SubqueryExpr) Children() []Expr   { return []Expr{e.Expr} }
-func (e *UnaryExpr) Children() []Expr      { return []Expr{e.Expr} }
-func (e *VectorSelector) Children() []Expr { return nil }
 
 func (e *BinaryExpr) setChildren(children []Expr)   { e.LHS, e.RHS = children[0], children[1] }
 func (e *Call) setChildren(children []Expr)         { e.Args = append(Expressions(nil), children...) }
@@ -417,11 +459,15 @@ func marshalText(text string) ([]byte, error) {
 
 // MarshalJSON returns a whole number of milliseconds.
 func (o Offset) MarshalJSON() ([]byte, error) {
+	return []byte(o.text()), nil
+}
+
+func (o Offset) text() string {
 	text := strconv.FormatUint(uint64(o.Milliseconds), 10)
 	if o.Negative && o.Milliseconds > 0 {
 		text = "-" + text
 	}
-	return []byte(text), nil
+	return text
 }
 
 // MarshalJSON returns the matching's JSON form.

@@ -1,9 +1,7 @@
 package promql
 
 import (
-	"bytes"
 	"encoding/json"
-	"io"
 	"sort"
 	"strconv"
 	"strings"
@@ -29,20 +27,16 @@ func Parse(query string) (Expr, error) {
 	return FromJSON(form)
 }
 
-// FromJSON returns the tree of a JSON form, as JSON and json.Marshal give it, and a *FormError where it is none. Types of expressions,
-// names and patterns are not looked at: Print tells where they are wrong.
+// FromJSON returns the tree of a JSON form, as JSON and json.Marshal give it, and a *FormError where it is none. At most 10,000 arrays and
+// objects within one another are read, and no text that is not valid UTF-8. Types of expressions, names and patterns are not looked at:
+// Print tells where they are wrong.
 func FromJSON(form []byte) (Expr, error) {
-	decoder := json.NewDecoder(bytes.NewReader(form))
-	decoder.UseNumber()
-	var value any
-	if err := decoder.Decode(&value); err != nil {
-		return nil, &FormError{"$", "not JSON"}
-	}
-	if _, err := decoder.Token(); err != io.EOF {
-		return nil, &FormError{"$", "not JSON"}
+	value, fault := readJSON(string(form))
+	if fault != nil {
+		return nil, fault
 	}
 	reader := formReader{}
-	expr := reader.expr("$", value)
+	expr := reader.expr(&path{}, value)
 	if reader.err != nil {
 		return nil, reader.err
 	}
@@ -54,15 +48,15 @@ type formReader struct {
 	err *FormError
 }
 
-func (r *formReader) fail(path, message string) {
+func (r *formReader) fail(place *path, message string) {
 	if r.err == nil {
-		r.err = &FormError{path, message}
+		r.err = &FormError{place.String(), message}
 	}
 }
 
 // expr reads an expression. It is no expression of its type, but some, where there is a fault.
-func (r *formReader) expr(path string, value any) Expr {
-	o := r.object(path, value)
+func (r *formReader) expr(place *path, value any) Expr {
+	o := r.object(place, value)
 	var expr Expr
 	switch kind := o.text("type"); kind {
 	case "aggregation":
@@ -91,7 +85,7 @@ func (r *formReader) expr(path string, value any) Expr {
 	case "vectorSelector":
 		expr = &VectorSelector{Selection: o.selection()}
 	default:
-		r.fail(path+".type", "expected the type of an expression")
+		r.fail(place.of("type"), "expected the type of an expression")
 	}
 	o.end()
 	return expr
@@ -100,19 +94,19 @@ func (r *formReader) expr(path string, value any) Expr {
 // object is an object of a form. A member that is read is taken out of it.
 type object struct {
 	reader *formReader
-	path   string
+	path   *path
 	values map[string]any
 }
 
-func (r *formReader) object(path string, value any) object {
+func (r *formReader) object(place *path, value any) object {
 	values, ok := value.(map[string]any)
 	if !ok {
-		r.fail(path, "expected an object")
+		r.fail(place, "expected an object")
 	}
-	return object{r, path, values}
+	return object{r, place, values}
 }
 
-// end tells of a member that was not read.
+// end tells of a member that was not read: of the first one in byte order.
 func (o object) end() {
 	names := make([]string, 0, len(o.values))
 	for name := range o.values {
@@ -125,7 +119,12 @@ func (o object) end() {
 }
 
 func (o object) fail(name, message string) {
-	o.reader.fail(o.path+"."+name, message)
+	o.reader.fail(o.path.of(name), message)
+}
+
+// failItem tells what is wrong in an item of a list.
+func (o object) failItem(name string, number int, message string) {
+	o.reader.fail(o.path.ofItem(name, number), message)
 }
 
 func (o object) has(name string) bool {
@@ -195,20 +194,16 @@ func (o object) texts(name string) []string {
 	for i, item := range o.list(name) {
 		text, ok := item.(string)
 		if !ok {
-			o.fail(at(name, i), "expected a string")
+			o.failItem(name, i, "expected a string")
+			return nil
 		}
 		texts = append(texts, text)
 	}
 	return texts
 }
 
-// at is the path of an item of a list.
-func at(name string, number int) string {
-	return name + "[" + strconv.Itoa(number) + "]"
-}
-
 func (o object) expr(name string) Expr {
-	return o.reader.expr(o.path+"."+name, o.take(name))
+	return o.reader.expr(o.path.of(name), o.take(name))
 }
 
 func (o object) exprOrNil(name string) Expr {
@@ -222,7 +217,10 @@ func (o object) exprOrNil(name string) Expr {
 func (o object) exprs(name string) []Expr {
 	var exprs []Expr
 	for i, item := range o.list(name) {
-		exprs = append(exprs, o.reader.expr(o.path+"."+at(name, i), item))
+		if o.reader.err != nil {
+			return nil
+		}
+		exprs = append(exprs, o.reader.expr(o.path.ofItem(name, i), item))
 	}
 	return exprs
 }
@@ -289,7 +287,7 @@ func (o object) selection() Selection {
 	if name := o.textOrNil("name"); name != nil {
 		found.Name = Name(*name)
 	}
-	found.Matchers = o.reader.matchers(o.path+".matchers", o.list("matchers"))
+	found.Matchers = o.reader.matchers(o.path, "matchers", o.list("matchers"))
 	if o.has("or_matchers") {
 		groups := o.list("or_matchers")
 		if len(groups) == 0 {
@@ -298,19 +296,23 @@ func (o object) selection() Selection {
 		for i, group := range groups {
 			items, ok := group.([]any)
 			if !ok {
-				o.fail(at("or_matchers", i), "expected a list")
+				o.failItem("or_matchers", i, "expected a list")
 			}
-			found.OrMatchers = append(found.OrMatchers, o.reader.matchers(o.path+"."+at("or_matchers", i), items))
+			found.OrMatchers = append(found.OrMatchers, o.reader.matchers(o.path.ofItem("or_matchers", i), "", items))
 		}
 	}
 	found.Times = o.times()
 	return found
 }
 
-func (r *formReader) matchers(path string, items []any) Matchers {
+// matchers reads a list of matchers, which is a member of this place, or the place itself where the member is empty.
+func (r *formReader) matchers(place *path, member string, items []any) Matchers {
 	var matchers Matchers
 	for i, item := range items {
-		o := r.object(at(path, i), item)
+		if r.err != nil {
+			return nil
+		}
+		o := r.object(place.ofItem(member, i), item)
 		kind := o.word("type", string(MatchEqual), string(MatchNotEqual), string(MatchRegexp), string(MatchNotRegexp))
 		matchers = append(matchers, Matcher{Name: o.text("name"), Type: MatchType(kind), Value: o.text("value")})
 		o.end()
@@ -320,7 +322,7 @@ func (r *formReader) matchers(path string, items []any) Matchers {
 
 // below is the object of a member.
 func (o object) below(name string) object {
-	return o.reader.object(o.path+"."+name, o.take(name))
+	return o.reader.object(o.path.of(name), o.take(name))
 }
 
 func (o object) matching(name string) *VectorMatching {

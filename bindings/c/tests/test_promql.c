@@ -295,6 +295,55 @@ static void test_renaming(void)
     CHECK(promql_rename("a", 1, PROMQL_METRIC, "a", 1, NULL, 1, buffer, sizeof buffer, &result) == PROMQL_BAD_POINTER);
 }
 
+/* Whether a layout is this text, or the message of this status. */
+static int lays_out(const char *query, size_t width, size_t indent_width, uint32_t status, const char *made)
+{
+    char buffer[256];
+    struct promql_result result;
+    uint32_t found = promql_format_query(query, strlen(query), width, indent_width, 0, buffer, sizeof buffer, &result);
+    return found == status && result.status == status && result.length == strlen(made) && memcmp(buffer, made, result.length) == 0;
+}
+
+static void test_formatting(void)
+{
+    CHECK(lays_out("a+b # c", 80, 2, PROMQL_OK, "a + b # c"));
+    CHECK(lays_out("a+b", 65535, 16, PROMQL_OK, "a + b"));
+    CHECK(lays_out("a+b", 65536, 16, PROMQL_UNKNOWN_MODE, "width is too large: 65536, at most 65535"));
+    CHECK(lays_out("a+b", 65535, 17, PROMQL_UNKNOWN_MODE, "indentation is too large: 17, at most 16"));
+    CHECK(lays_out("a+b", SIZE_MAX, SIZE_MAX, PROMQL_UNKNOWN_MODE, "width is too large: 18446744073709551615, at most 65535"));
+    promql_set_max_output(4);
+    CHECK(lays_out("a+b", 80, 2, PROMQL_LONG_OUTPUT, "output is too long: 5 bytes, at most 4"));
+    CHECK(lays_out("a+", 80, 2, PROMQL_REJECTED, "invalid promql query"));
+    promql_set_max_output(4194304);
+}
+
+/* What Prometheus reads as bytes and the rules as characters, by each call that has a target and some that have none. */
+static void test_targets(void)
+{
+    const char *query = "a{b=\"\\xc3\\xa9\"}";
+    const char *line = "a{b=\"\xc3\x83\xc2\xa9\"}";
+    const char *why = "Prometheus reads this otherwise: the escape is a byte there, and a character here";
+    const char *of_matcher = "Prometheus reads the matcher otherwise: the escape at byte 3 is a byte there, and a character here";
+    CHECK(gives(of_query(CALL_CHECK, query), PROMQL_READ_OTHERWISE, why));
+    CHECK(has_place(of_query(CALL_CHECK, query), 5, 9, 1, 6));
+    CHECK(gives(enforcing("a{b=\"\\xc3\\xa9\"}c='1'", 5), PROMQL_READ_OTHERWISE, why));
+    CHECK(gives(enforcing("ab=\"\\xc3\"", 8), PROMQL_READ_OTHERWISE, of_matcher));
+    CHECK(has_place(enforcing("ab=\"\\xc3\"", 8), 0, 0, 0, 0));
+    CHECK(renames(query, PROMQL_METRIC, "a", "c", PROMQL_READ_OTHERWISE, why));
+    CHECK(lays_out(query, 80, 2, PROMQL_READ_OTHERWISE, why));
+    CHECK(gives(in_mode(PROMQL_LINE, 0, 0, query), PROMQL_OK, line));
+    CHECK(gives(of_query(CALL_CANONICAL, query), PROMQL_OK, line));
+    CHECK(promql_set_target(2) == PROMQL_UNKNOWN_MODE);
+    CHECK(gives(of_query(CALL_CHECK, query), PROMQL_READ_OTHERWISE, why));
+    CHECK(promql_set_target(PROMQL_RULES) == PROMQL_OK);
+    CHECK(gives(of_query(CALL_CHECK, query), PROMQL_OK, ""));
+    CHECK(renames(query, PROMQL_METRIC, "a", "a", PROMQL_OK, line));
+    CHECK(lays_out(query, 80, 2, PROMQL_OK, line));
+    CHECK(gives(enforcing("ab=\"\\xc3\"", 8), PROMQL_OK, "a{b=\"\xc3\x83\"}"));
+    CHECK(promql_set_target(PROMQL_PROMETHEUS_3) == PROMQL_OK);
+    CHECK(gives(of_query(CALL_CHECK, "a{b=\"\\x41\"}"), PROMQL_OK, ""));
+}
+
 /* A matcher, and the query with it, have the limits of a query. */
 static void test_large_enforcing(void)
 {
@@ -402,8 +451,9 @@ static void test_explaining(void)
     r.length = 3;
     CHECK(gives(r, PROMQL_OK, ""));
     CHECK(gives(of_query(CALL_EXPLAIN, "\xff"), PROMQL_NOT_UTF8, "input is not UTF-8"));
-    /* (large patterns are not compiled once for each kind of token) */
-    CHECK(gives(of_query(CALL_EXPLAIN, large), PROMQL_OK, "invalid promql query"));
+    CHECK(gives(of_query(CALL_EXPLAIN, large), PROMQL_OK,
+                "unexpected identifier \"b\", expected \"[\", operator, \"@\", \"offset\", \"smoothed\", \"anchored\" or end of query; "
+                "an operator is missing before it"));
     CHECK(gives(of_query(CALL_EXPLAIN, "a{b=~\"c{3000}\"}"), PROMQL_OK, "patterns are too large: 39013, at most 16000"));
 }
 
@@ -429,6 +479,29 @@ static void test_places(void)
     CHECK(gives(of_query(CALL_PLACES, "\xff"), PROMQL_NOT_UTF8, "input is not UTF-8"));
 }
 
+/* The limits of a tree, which are looked at before anything of it is made. */
+static void test_large_trees(void)
+{
+    const char *one = "{\"type\":\"numberLiteral\",\"val\":\"1\"}";
+    promql_set_max_tree(34);
+    CHECK(gives(of_query(CALL_PRINT_TREE, one), PROMQL_OK, "1"));
+    promql_set_max_tree(33);
+    CHECK(gives(of_query(CALL_PRINT_TREE, one), PROMQL_TOO_LARGE, "tree is too long: 34 bytes, at most 33"));
+    CHECK(has_place(of_query(CALL_PRINT_TREE, one), 0, 0, 0, 0));
+    promql_set_max_tree(4194304);
+    const char *pattern = "{\"matchers\":[{\"name\":\"b\",\"type\":\"=~\",\"value\":\"c{3000}\"}],\"name\":\"a\",\"offset\":0,"
+                          "\"startOrEnd\":null,\"timestamp\":null,\"type\":\"vectorSelector\"}";
+    CHECK(gives(of_query(CALL_PRINT_TREE, pattern), PROMQL_TOO_LARGE, "patterns are too large: 39013, at most 16000"));
+    CHECK(has_place(of_query(CALL_PRINT_TREE, pattern), 0, 0, 0, 0));
+    promql_set_limits(32768, 39013);
+    CHECK(gives(of_query(CALL_PRINT_TREE, pattern), PROMQL_OK, "a{b=~\"c{3000}\"}"));
+    promql_set_limits(32768, 16000);
+    /* (the patterns of a text that is no tree are measured, too) */
+    const char *list = "[[{\"type\":\"!~\",\"value\":\"c{1000}\"},1],{\"x\":{\"type\":\"=~\",\"value\":\"c{1000}\"}}]";
+    CHECK(gives(of_query(CALL_PRINT_TREE, list), PROMQL_TOO_LARGE, "patterns are too large: 26026, at most 16000"));
+    CHECK(gives(of_query(CALL_PRINT_TREE, "[{\"type\":\"=\",\"value\":\"c{9000}\"}]"), PROMQL_NOT_A_TREE, "$: an object"));
+}
+
 static void test_trees(void)
 {
     CHECK(gives(of_query(CALL_PRINT_TREE, "{\"type\": \"numberLiteral\", \"val\": \"1.5\"}"), PROMQL_OK, "1.5"));
@@ -436,6 +509,7 @@ static void test_trees(void)
     CHECK(has_place(of_query(CALL_PRINT_TREE, "{}"), 0, 0, 0, 0));
     CHECK(gives(of_query(CALL_PRINT_TREE, "1 + 2"), PROMQL_NOT_A_TREE, "not JSON"));
     CHECK(gives(of_query(CALL_PRINT_TREE, "\xff"), PROMQL_NOT_UTF8, "input is not UTF-8"));
+    test_large_trees();
 }
 
 static int is_empty(const struct promql_result *result, uint32_t status, size_t length)
@@ -808,8 +882,10 @@ static void test_random(const char *path, long count, uint64_t seed)
 
 int main(int argc, char **argv)
 {
-    if (argc >= 3)
-        promql_set_limits(1048576, 32000); /* those of the stored run */
+    if (argc >= 3) {
+        promql_set_limits(1048576, 32000); /* those of the stored run, whose queries have no target */
+        promql_set_target(PROMQL_RULES);
+    }
     if (argc >= 3 && strcmp(argv[1], "rows") == 0)
         return run_rows(argv[2], argc > 3 ? (size_t)atol(argv[3]) : 0);
     if (argc == 5 && strcmp(argv[1], "random") == 0) {
@@ -820,6 +896,8 @@ int main(int argc, char **argv)
         test_errors();
         test_enforcing();
         test_renaming();
+        test_formatting();
+        test_targets();
         test_large_enforcing();
         test_long_enforcing(14, 31);
         test_long_enforcing(3, 1000);

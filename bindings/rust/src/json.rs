@@ -1,33 +1,104 @@
 //! Values of JSON: no more than the form of a query needs.
 
-/// A value of JSON. A number is its text.
-#[derive(Debug, PartialEq)]
-pub enum Value {
+use std::borrow::Cow;
+
+/// A text of JSON as the list of its values, each before those within it. So no text makes it deep, and it is dropped without recursion.
+pub struct Json<'a> {
+    entries: Vec<Entry<'a>>,
+}
+
+/// A value without those within it. An array or an object has the number of the entry after its last one; the entries of an object are
+/// names and values in turn. A number is its text.
+enum Entry<'a> {
     Null,
     Bool(bool),
-    Number(String),
-    String(String),
-    Array(Vec<Value>),
-    Object(Vec<(String, Value)>),
+    Number(&'a str),
+    String(Cow<'a, str>),
+    Array(usize),
+    Object(usize),
 }
 
-/// Arrays and objects in one another that are read: those of the highest query, and some more.
-const MOST_DEPTH: usize = 2048;
+/// A value of JSON.
+#[derive(Clone, Copy)]
+pub enum Value<'a> {
+    Null,
+    Bool(bool),
+    Number(&'a str),
+    String(&'a str),
+    Array(Values<'a>),
+    Object(Values<'a>),
+}
+
+/// The items of an array, or the names and values of an object in turn.
+#[derive(Clone, Copy)]
+pub struct Values<'a> {
+    entries: &'a [Entry<'a>],
+    next: usize,
+    end: usize,
+}
+
+impl<'a> Json<'a> {
+    /// The value of the text.
+    pub fn value(&'a self) -> Value<'a> {
+        value_at(&self.entries, 0).0
+    }
+}
+
+/// The value at an entry, and the number of the entry after it.
+fn value_at<'a>(entries: &'a [Entry<'a>], at: usize) -> (Value<'a>, usize) {
+    let within = |end: usize| Values { entries, next: at + 1, end };
+    match &entries[at] {
+        Entry::Null => (Value::Null, at + 1),
+        Entry::Bool(flag) => (Value::Bool(*flag), at + 1),
+        Entry::Number(text) => (Value::Number(text), at + 1),
+        Entry::String(text) => (Value::String(text), at + 1),
+        Entry::Array(end) => (Value::Array(within(*end)), *end),
+        Entry::Object(end) => (Value::Object(within(*end)), *end),
+    }
+}
+
+impl<'a> Iterator for Values<'a> {
+    type Item = Value<'a>;
+
+    fn next(&mut self) -> Option<Value<'a>> {
+        if self.next == self.end {
+            return None;
+        }
+        let (value, after) = value_at(self.entries, self.next);
+        self.next = after;
+        Some(value)
+    }
+}
+
+impl<'a> Values<'a> {
+    /// The names of an object with their values.
+    pub fn members(mut self) -> impl Iterator<Item = (&'a str, Value<'a>)> {
+        std::iter::from_fn(move || match self.next()? {
+            Value::String(name) => Some((name, self.next()?)),
+            _ => None,
+        })
+    }
+}
 
 /// The value of a text, or `None` where it is no JSON.
-pub fn read(text: &str) -> Option<Value> {
-    let mut reader = Reader { rest: text };
-    let value = reader.value(0)?;
+pub fn read(text: &str) -> Option<Json<'_>> {
+    let mut reader = Reader { rest: text, entries: Vec::new(), open: Vec::new() };
+    reader.value()?;
+    while let Some(&container) = reader.open.last() {
+        reader.item(container)?;
+    }
     reader.skip_space();
-    reader.rest.is_empty().then_some(value)
+    reader.rest.is_empty().then_some(Json { entries: reader.entries })
 }
 
-/// What is left of a text.
+/// What is left of a text, the values that were read of it, and the numbers of the arrays and objects that have no end yet.
 struct Reader<'a> {
     rest: &'a str,
+    entries: Vec<Entry<'a>>,
+    open: Vec<usize>,
 }
 
-impl Reader<'_> {
+impl<'a> Reader<'a> {
     fn skip_space(&mut self) {
         self.rest = self.rest.trim_start_matches([' ', '\t', '\n', '\r']);
     }
@@ -39,68 +110,75 @@ impl Reader<'_> {
         rest.is_some()
     }
 
-    fn value(&mut self, depth: usize) -> Option<Value> {
+    /// Takes a value, of an array or an object its first sign alone.
+    fn value(&mut self) -> Option<()> {
         self.skip_space();
-        match self.rest.bytes().next()? {
-            b'{' if depth < MOST_DEPTH => self.object(depth + 1),
-            b'[' if depth < MOST_DEPTH => self.array(depth + 1),
-            b'"' => self.string().map(Value::String),
-            b'-' | b'0'..=b'9' => self.number(),
-            _ if self.eat("null") => Some(Value::Null),
-            _ if self.eat("true") => Some(Value::Bool(true)),
-            _ if self.eat("false") => Some(Value::Bool(false)),
-            _ => None,
-        }
+        let entry = match self.rest.bytes().next()? {
+            b'{' => self.begin("{", Entry::Object(0)),
+            b'[' => self.begin("[", Entry::Array(0)),
+            b'"' => Entry::String(self.string()?),
+            b'-' | b'0'..=b'9' => Entry::Number(self.number()?),
+            _ if self.eat("null") => Entry::Null,
+            _ if self.eat("true") => Entry::Bool(true),
+            _ if self.eat("false") => Entry::Bool(false),
+            _ => return None,
+        };
+        self.entries.push(entry);
+        Some(())
     }
 
-    /// Whether there is another item, after a comma but for the first one; takes the closing sign where there is none.
-    fn has_item(&mut self, is_first: bool, close: &str) -> Option<bool> {
+    /// Takes the sign that opens an array or an object, whose end is not known yet.
+    fn begin(&mut self, sign: &str, entry: Entry<'a>) -> Entry<'a> {
+        self.eat(sign);
+        self.open.push(self.entries.len());
+        entry
+    }
+
+    /// Takes the next item of the innermost array or object, or its closing sign.
+    fn item(&mut self, container: usize) -> Option<()> {
         self.skip_space();
-        if self.eat(close) {
-            return Some(false);
+        let end = self.entries.len();
+        let is_object = matches!(self.entries[container], Entry::Object(_));
+        if self.eat(if is_object { "}" } else { "]" }) {
+            self.entries[container] = if is_object { Entry::Object(end) } else { Entry::Array(end) };
+            self.open.pop();
+            return Some(());
         }
-        (is_first || self.eat(",")).then_some(true)
+        let is_first = end == container + 1;
+        if !is_first && !self.eat(",") {
+            return None;
+        }
+        if is_object {
+            self.name()?;
+        }
+        self.value()
     }
 
-    fn array(&mut self, depth: usize) -> Option<Value> {
-        let mut items = Vec::new();
-        self.eat("[");
-        while self.has_item(items.is_empty(), "]")? {
-            items.push(self.value(depth)?);
-        }
-        Some(Value::Array(items))
+    /// Takes the name of a member, and the colon after it.
+    fn name(&mut self) -> Option<()> {
+        self.skip_space();
+        let name = self.string()?;
+        self.entries.push(Entry::String(name));
+        self.skip_space();
+        self.eat(":").then_some(())
     }
 
-    fn object(&mut self, depth: usize) -> Option<Value> {
-        let mut members: Vec<(String, Value)> = Vec::new();
-        self.eat("{");
-        while self.has_item(members.is_empty(), "}")? {
-            self.skip_space();
-            let name = self.string()?;
-            self.skip_space();
-            if !self.eat(":") || members.iter().any(|(other, _)| *other == name) {
-                return None;
-            }
-            members.push((name, self.value(depth)?));
-        }
-        Some(Value::Object(members))
-    }
-
-    fn number(&mut self) -> Option<Value> {
+    fn number(&mut self) -> Option<&'a str> {
         let end = self.rest.find(|it: char| !it.is_ascii_alphanumeric() && !"+-.".contains(it)).unwrap_or(self.rest.len());
         let (number, rest) = self.rest.split_at(end);
         self.rest = rest;
-        is_number(number).then(|| Value::Number(number.to_string()))
+        is_number(number).then_some(number)
     }
 
-    fn string(&mut self) -> Option<String> {
+    fn string(&mut self) -> Option<Cow<'a, str>> {
         if !self.eat("\"") {
             return None;
         }
-        let mut text = String::new();
+        let mut text = Cow::Borrowed("");
         loop {
             let end = self.rest.find(|it: char| it == '"' || it == '\\' || it < ' ')?;
-            text.push_str(&self.rest[..end]);
+            // (a text without escapes is not copied)
+            text += &self.rest[..end];
             self.rest = &self.rest[end..];
             if self.eat("\"") {
                 return Some(text);
@@ -108,7 +186,7 @@ impl Reader<'_> {
             if !self.eat("\\") {
                 return None;
             }
-            text.push(self.escaped()?);
+            text.to_mut().push(self.escaped()?);
         }
     }
 

@@ -22,15 +22,18 @@ mod function;
 mod function_table;
 mod json;
 mod library;
+mod members;
+mod node_faults;
 mod print_tree;
 mod read_form;
+mod read_node;
 mod tree;
 mod visitor;
 mod write_form;
 
 pub use function::{Function, ValueType, get_function};
 pub use print_tree::{NodeError, parse, places, print, print_layout};
-pub use read_form::FormError;
+pub use read_form::{FormError, MOST_HEIGHT};
 pub use tree::*;
 pub use visitor::{ExprVisitor, ExprVisitorMut, walk_expr, walk_expr_mut};
 
@@ -50,8 +53,14 @@ pub enum Error {
     Rejected(Rejection),
     /// The query is too long, or its patterns are too large together ([`set_limits`]).
     TooLarge(Rejection),
+    /// The target reads a part of the query otherwise ([`set_target`]).
+    ReadOtherwise(Rejection),
+    /// The target reads a part of the matcher otherwise ([`set_target`]): which.
+    MatcherReadOtherwise(String),
     /// The level of a layout is above 512.
     LevelTooHigh,
+    /// The width of a layout for people is above 65,535, or its indentation above 16: which.
+    WideLayout(String),
     /// The query has no JSON form: a number of milliseconds is below -2^63 or above 2^64 - 1.
     NumberTooWide,
     /// The matcher is none.
@@ -62,7 +71,8 @@ pub enum Error {
     Unfaithful(String),
     /// The text is not JSON, or is the form of no tree: where, as `$.lhs.args[0].range`, and what was expected there.
     NotATree(String),
-    /// The line of a tree is too long, or its patterns are too large together ([`set_limits`]): which.
+    /// The JSON form of a tree is too long ([`set_max_tree`]), or its line is, or its patterns are too large together ([`set_limits`]):
+    /// which.
     TooLargeTree(String),
     /// The query calls `info` without a second argument, so that no matcher limits the series that this reads.
     BareInfo,
@@ -118,7 +128,8 @@ impl Rejection {
     pub fn explain(&self, query: &str) -> Explanation {
         let (text, answer) = library::explain(query);
         let told = if answer.status == library::OK { json::read(&text) } else { None };
-        explanation_in(told, (self.line, self.column)).unwrap_or_else(|| Explanation {
+        let explanation = told.and_then(|json| explanation_in(json.value(), (self.line, self.column)));
+        explanation.unwrap_or_else(|| Explanation {
             message: self.message.clone(),
             expected: Vec::new(),
             found: None,
@@ -141,7 +152,7 @@ impl fmt::Display for Error {
     fn fmt(&self, f: &mut fmt::Formatter<'_>) -> fmt::Result {
         match self {
             Error::OutOfMemory => f.write_str("out of memory"),
-            Error::Rejected(rejection) | Error::TooLarge(rejection) => rejection.fmt(f),
+            Error::Rejected(rejection) | Error::TooLarge(rejection) | Error::ReadOtherwise(rejection) => rejection.fmt(f),
             Error::LevelTooHigh => f.write_str("level is above 512"),
             Error::NumberTooWide => f.write_str("number too wide for JSON"),
             Error::NotAMatcher => f.write_str(NOT_A_MATCHER),
@@ -149,6 +160,8 @@ impl fmt::Display for Error {
             Error::Unfaithful(message)
             | Error::NotATree(message)
             | Error::TooLargeTree(message)
+            | Error::MatcherReadOtherwise(message)
+            | Error::WideLayout(message)
             | Error::LargeEnforced(message)
             | Error::LongOutput(message) => f.write_str(message),
             Error::NotAName => f.write_str("the new name is no name of a metric"),
@@ -157,7 +170,7 @@ impl fmt::Display for Error {
             Error::BareInfo => {
                 f.write_str("info without a selector reads series that no matcher limits")
             }
-            Error::SmallStack => f.write_str("the thread has less than 1.25 MiB of stack left"),
+            Error::SmallStack => f.write_str(SMALL_STACK),
             Error::Node(fault) => fault.fmt(f),
             Error::Form(fault) => fault.fmt(f),
             Error::NoPrintTree => f.write_str("the library has no promql_print_tree"),
@@ -171,6 +184,9 @@ impl error::Error for Error {}
 
 /// The message of a text that is no matcher.
 const NOT_A_MATCHER: &str = "not a matcher";
+
+/// The message of a thread with little stack.
+const SMALL_STACK: &str = "the thread has less than 1.25 MiB of stack left";
 
 /// How [`format`] lays a query out.
 #[derive(Clone, Copy, Debug, PartialEq, Eq)]
@@ -230,9 +246,14 @@ impl Default for Style {
 ///
 /// # Errors
 ///
-/// Those of [`canonical`], and `Unfaithful` where the layout does not read back.
+/// Those of [`canonical`], `ReadOtherwise`, `WideLayout` where the style asks for more than it may, and `Unfaithful` where the layout does not
+/// read back.
 pub fn format_query(query: &str, style: Style) -> Result<String, Error> {
-    text_of(library::format_query(query, style.width, style.indent_width, style.keep_spelling))
+    let (text, answer) = library::format_query(query, style.width, style.indent_width, style.keep_spelling);
+    match answer.status {
+        library::UNKNOWN_MODE => Err(Error::WideLayout(text)),
+        _ => text_of((text, answer)),
+    }
 }
 
 /// The tree of the query in its JSON form (`docs/reference/json.md` of the repository), without a space.
@@ -335,10 +356,37 @@ pub fn set_limits(max_len: usize, max_pattern_size: usize) {
     library::set_limits(max_len, max_pattern_size);
 }
 
+/// What reads the queries that are sent on (`docs/reference/programs.md` of the repository, "Targets").
+#[derive(Clone, Copy, Debug, Default, PartialEq, Eq)]
+pub enum Target {
+    /// A Prometheus, to which an escape of a byte past ASCII, as `"\xc3"`, is a byte of a text.
+    #[default]
+    Prometheus3,
+    /// The rules of this library alone, to which it is a character.
+    Rules,
+}
+
+/// Sets what reads each later query that [`enforce`], [`rename_metric`], [`rename_label`] and [`format_query`] return and [`check`] checks, in
+/// this process: [`Target::Prometheus3`] before the first call. What it reads otherwise gives [`Error::ReadOtherwise`], or of a matcher
+/// [`Error::MatcherReadOtherwise`].
+pub fn set_target(target: Target) {
+    library::set_target(match target {
+        Target::Prometheus3 => 0,
+        Target::Rules => 1,
+    });
+}
+
 /// Sets how many bytes what [`canonical`], [`format`], [`json`] and [`placed_json`] return has at most, in this process: 4,194,304 before
 /// the first call.
 pub fn set_max_output(bytes: usize) {
     library::set_max_output(bytes);
+}
+
+/// Sets how many bytes the JSON form of a tree that is printed has at most, in this process: 4,194,304 before the first call. Where
+/// there are more, or its patterns are larger than those of a query may be, the error is [`Error::TooLargeTree`], before anything of it
+/// is compiled.
+pub fn set_max_tree(bytes: usize) {
+    library::set_max_tree(bytes);
 }
 
 /// The version of the library.
@@ -352,6 +400,9 @@ fn text_of((text, answer): (String, Answer)) -> Result<String, Error> {
         library::OUT_OF_MEMORY => Err(Error::OutOfMemory),
         library::REJECTED => Err(Error::Rejected(rejection_of(text, &answer))),
         library::TOO_LARGE => Err(Error::TooLarge(rejection_of(text, &answer))),
+        // (of a matcher it has no place)
+        library::READ_OTHERWISE if answer.line == 0 => Err(Error::MatcherReadOtherwise(text)),
+        library::READ_OTHERWISE => Err(Error::ReadOtherwise(rejection_of(text, &answer))),
         library::UNKNOWN_MODE => Err(Error::LevelTooHigh),
         library::NUMBER_TOO_WIDE => Err(Error::NumberTooWide),
         library::BAD_MATCHER if text == NOT_A_MATCHER => Err(Error::NotAMatcher),
@@ -371,28 +422,28 @@ fn text_of((text, answer): (String, Answer)) -> Result<String, Error> {
 }
 
 /// The explanation in an object of JSON, if it tells of this place: a line and a column.
-fn explanation_in(told: Option<Value>, place: (usize, usize)) -> Option<Explanation> {
+fn explanation_in(told: Value<'_>, place: (usize, usize)) -> Option<Explanation> {
     let members = match told {
-        Some(Value::Object(members)) => members,
+        Value::Object(values) => values.members(),
         _ => return None,
     };
     let (mut message, mut expected, mut found, mut line, mut column) = (None, Vec::new(), None, None, None);
     for (name, value) in members {
-        match (name.as_str(), value) {
+        match (name, value) {
             ("line", Value::Number(number)) => line = number.parse().ok(),
             ("column", Value::Number(number)) => column = number.parse().ok(),
-            ("error", Value::String(text)) => message = Some(text),
-            ("found", Value::String(text)) => found = Some(text),
-            ("expected", Value::Array(names)) => expected = names.into_iter().filter_map(text_in).collect(),
+            ("error", Value::String(text)) => message = Some(text.to_string()),
+            ("found", Value::String(text)) => found = Some(text.to_string()),
+            ("expected", Value::Array(names)) => expected = names.filter_map(text_in).collect(),
             _ => {}
         }
     }
     ((line?, column?) == place).then_some(Explanation { message: message?, expected, found })
 }
 
-fn text_in(value: Value) -> Option<String> {
+fn text_in(value: Value<'_>) -> Option<String> {
     match value {
-        Value::String(text) => Some(text),
+        Value::String(text) => Some(text.to_string()),
         _ => None,
     }
 }

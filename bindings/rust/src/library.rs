@@ -30,6 +30,7 @@ pub const LONG_OUTPUT: u32 = 18;
 pub const NOT_A_NAME: u32 = 20;
 pub const METRIC_LABEL: u32 = 21;
 pub const CLASH: u32 = 22;
+pub const READ_OTHERWISE: u32 = 23;
 /// No status of the library: it is an older one, which has no such call.
 pub const NO_PRINT_TREE: u32 = u32::MAX;
 
@@ -155,6 +156,8 @@ extern "C" {
     ) -> u32;
     fn promql_set_limits(max_len: usize, max_pattern_size: usize);
     fn promql_set_max_output(bytes: usize);
+    fn promql_set_max_tree(bytes: usize);
+    fn promql_set_target(number: u32) -> u32;
     fn promql_version(buffer: *mut u8, buffer_size: usize, result: *mut Answer) -> u32;
 }
 
@@ -230,6 +233,11 @@ pub fn check(query: &str) -> (String, Answer) {
     })
 }
 
+/// Whether the thread has the stack that a call about a query needs.
+pub fn has_stack() -> bool {
+    check("1").1.status != SMALL_STACK
+}
+
 /// As JSON.
 pub fn explain(query: &str) -> (String, Answer) {
     call(query.len(), |(buffer, size, answer)| unsafe {
@@ -264,6 +272,16 @@ pub fn set_limits(max_len: usize, max_pattern_size: usize) {
 pub fn set_max_output(bytes: usize) {
     // SAFETY: the call takes a number alone.
     unsafe { promql_set_max_output(bytes) }
+}
+
+pub fn set_max_tree(bytes: usize) {
+    // SAFETY: the call takes a number alone.
+    unsafe { promql_set_max_tree(bytes) }
+}
+
+pub fn set_target(number: u32) {
+    // SAFETY: the call takes a number alone. It has a target of each number that `Target` has.
+    unsafe { promql_set_target(number) };
 }
 
 pub fn version() -> (String, Answer) {

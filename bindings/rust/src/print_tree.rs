@@ -1,5 +1,6 @@
 //! From a tree to its text.
 
+use crate::node_faults::{first_without_text, node_at};
 use crate::tree::Expr;
 use crate::{Error, Layout, library};
 use std::error;
@@ -22,9 +23,7 @@ pub struct NodeError {
 impl NodeError {
     /// The expression of the tree at the path, or the last one on the way there.
     pub fn node<'a>(&self, tree: &'a Expr) -> &'a Expr {
-        let paths = paths(tree);
-        let is_on_way = |path: &str| self.path == path || self.path.strip_prefix(path).map_or(false, |rest| rest.starts_with('.'));
-        paths.iter().rev().find(|(path, _)| is_on_way(path)).map_or(tree, |(_, expr)| *expr)
+        node_at(tree, &self.path)
     }
 }
 
@@ -104,44 +103,13 @@ fn print_in_mode(tree: &Expr, layout: Option<Layout>) -> Result<String, Error> {
         other => return other,
     };
     let said = cause.to_string();
+    let has_text = |expr: &Expr| crate::print_tree(&expr.to_json(), true, None).is_ok();
     let (path, message) = match (&cause, said.split_once(": ")) {
         (Error::NotATree(_), Some((path, message))) => (path.to_string(), message.to_string()),
         // (the form is JSON, but deeper than the library reads)
         (Error::NotATree(_), None) => (String::from("$"), String::from("nested too deeply")),
-        (Error::Unfaithful(_), _) => (first_without_text(tree), said),
+        (Error::Unfaithful(_), _) => (first_without_text(tree, has_text), said),
         _ => (String::from("$"), said),
     };
     Err(Error::Node(NodeError { path, message, cause: Box::new(cause) }))
-}
-
-/// The path of the lowest expression that has no text, though all below it have one: that is where the fault is.
-fn first_without_text(tree: &Expr) -> String {
-    let has_text = |expr: &Expr| crate::print_tree(&expr.to_json(), true, None).is_ok();
-    let found = paths(tree).into_iter().rev().find(|(_, expr)| !has_text(expr));
-    found.map_or_else(|| String::from("$"), |(path, _)| path)
-}
-
-/// The expressions of a tree with their paths, in the order of a walk.
-fn paths(tree: &Expr) -> Vec<(String, &Expr)> {
-    let mut found = Vec::new();
-    let mut left = vec![(String::from("$"), tree)];
-    while let Some((path, expr)) = left.pop() {
-        let names = names_of_children(expr);
-        let below = names.into_iter().zip(expr.children());
-        let below: Vec<(String, &Expr)> = below.map(|(name, child)| (format!("{path}.{name}"), child)).collect();
-        left.extend(below.into_iter().rev());
-        found.push((path, expr));
-    }
-    found
-}
-
-/// The members of the JSON form that have the children.
-fn names_of_children(expr: &Expr) -> Vec<String> {
-    let count = expr.children().len();
-    match expr {
-        Expr::Aggregate(_) if count == 2 => vec![String::from("param"), String::from("expr")],
-        Expr::Binary(_) => vec![String::from("lhs"), String::from("rhs")],
-        Expr::Call(_) => (0..count).map(|number| format!("args[{number}]")).collect(),
-        _ => vec![String::from("expr"); count],
-    }
 }

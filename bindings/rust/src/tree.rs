@@ -1,6 +1,7 @@
 //! The nodes of a tree.
 
 use crate::function::{Function, get_function};
+use std::fmt;
 use std::mem;
 
 /// An expression of a query. The names are those of the crate `promql-parser`.
@@ -8,7 +9,7 @@ use std::mem;
 /// [`parse`](crate::parse) and `FromStr` read one, [`print`](crate::print) and `Display` print it, and [`Expr::to_json`] and
 /// [`Expr::from_json`] are the ways to and from the JSON form (`docs/reference/json.md` of the repository), which has all that a tree has.
 /// Times and lengths of time are whole milliseconds.
-#[derive(Clone, Debug, PartialEq, Eq, Hash)]
+#[derive(PartialEq, Eq, Hash)]
 pub enum Expr {
     /// An aggregation, as `sum by (job) (up)`.
     Aggregate(AggregateExpr),
@@ -344,6 +345,66 @@ impl Expr {
         }
     }
 
+    /// The child of this number, in the order of [`Expr::children`].
+    pub(crate) fn child_mut(&mut self, number: usize) -> Option<&mut Expr> {
+        match self {
+            Expr::Aggregate(it) => match (&mut it.param, number) {
+                (Some(param), 0) => Some(param),
+                (Some(_), 1) | (None, 0) => Some(&mut it.expr),
+                _ => None,
+            },
+            Expr::Binary(it) => match number {
+                0 => Some(&mut it.lhs),
+                1 => Some(&mut it.rhs),
+                _ => None,
+            },
+            Expr::Call(it) => it.args.get_mut(number),
+            Expr::Paren(ParenExpr { expr }) | Expr::Unary(UnaryExpr { expr }) => (number == 0).then_some(expr),
+            Expr::Subquery(it) => (number == 0).then_some(&mut it.expr),
+            Expr::NumberLiteral(_) | Expr::StringLiteral(_) | Expr::VectorSelector(_) | Expr::MatrixSelector(_) => None,
+        }
+    }
+
+    /// Takes the child of this number out, and leaves an empty string in its place, which allocates nothing.
+    pub(crate) fn take_child(&mut self, number: usize) -> Option<Expr> {
+        let child = self.child_mut(number)?;
+        Some(mem::replace(child, Expr::StringLiteral(StringLiteral { val: String::new() })))
+    }
+
+    /// Puts an expression in the place of the child of this number, which is there.
+    pub(crate) fn put_child(&mut self, number: usize, expr: Expr) {
+        if let Some(child) = self.child_mut(number) {
+            *child = expr;
+        }
+    }
+
+    /// The same expression over other children, which the function gives in the order of [`Expr::children`].
+    pub(crate) fn over(&self, mut child: impl FnMut() -> Expr) -> Expr {
+        match self {
+            Expr::Aggregate(it) => {
+                let param = it.param.is_some().then(|| Box::new(child()));
+                let (op, grouping, without) = (it.op.clone(), it.grouping.clone(), it.without);
+                Expr::Aggregate(AggregateExpr { op, expr: Box::new(child()), param, grouping, without })
+            }
+            Expr::Binary(it) => {
+                let (lhs, rhs) = (Box::new(child()), Box::new(child()));
+                let (op, return_bool, matching) = (it.op.clone(), it.return_bool, it.matching.clone());
+                Expr::Binary(BinaryExpr { op, lhs, rhs, return_bool, matching })
+            }
+            Expr::Call(it) => Expr::Call(Call { name: it.name.clone(), args: it.args.iter().map(|_| child()).collect() }),
+            Expr::Paren(_) => Expr::Paren(ParenExpr { expr: Box::new(child()) }),
+            Expr::Subquery(it) => {
+                let &SubqueryExpr { range, step, offset, at, .. } = it;
+                Expr::Subquery(SubqueryExpr { expr: Box::new(child()), range, step, offset, at })
+            }
+            Expr::Unary(_) => Expr::Unary(UnaryExpr { expr: Box::new(child()) }),
+            Expr::NumberLiteral(it) => Expr::NumberLiteral(it.clone()),
+            Expr::StringLiteral(it) => Expr::StringLiteral(it.clone()),
+            Expr::VectorSelector(it) => Expr::VectorSelector(it.clone()),
+            Expr::MatrixSelector(it) => Expr::MatrixSelector(it.clone()),
+        }
+    }
+
     /// This expression and all below it: each before those below it, and these in the order of [`Expr::children`].
     pub fn walk(&self) -> Walk<'_> {
         Walk { left: vec![self] }
@@ -351,12 +412,46 @@ impl Expr {
 
     /// The tree that the function makes of this one: it is called with each expression, once those below it are what it returned for them,
     /// and returns what takes its place.
-    pub fn transform(mut self, function: &mut impl FnMut(Expr) -> Expr) -> Expr {
-        for child in self.children_mut() {
-            let taken = mem::replace(child, Expr::StringLiteral(StringLiteral { val: String::new() }));
-            *child = taken.transform(function);
+    pub fn transform(self, function: &mut impl FnMut(Expr) -> Expr) -> Expr {
+        // The expressions that are above the one at hand, each with the number of its child that is taken out of it.
+        let mut above: Vec<(Expr, usize)> = Vec::new();
+        let (mut expr, mut number) = (self, 0);
+        loop {
+            if let Some(child) = expr.take_child(number) {
+                above.push((expr, number));
+                (expr, number) = (child, 0);
+                continue;
+            }
+            let changed = function(expr);
+            (expr, number) = match above.pop() {
+                Some((mut parent, place)) => {
+                    parent.put_child(place, changed);
+                    (parent, place + 1)
+                }
+                None => return changed,
+            };
         }
-        function(self)
+    }
+}
+
+impl Clone for Expr {
+    /// Made without recursion, which would need more stack than all else that is done with a tree.
+    fn clone(&self) -> Expr {
+        let found: Vec<&Expr> = self.walk().collect();
+        let mut made: Vec<Expr> = Vec::new();
+        for expr in found.into_iter().rev() {
+            // (the children were made before, the first one last)
+            let copy = expr.over(|| made.pop().expect("each child is in the walk"));
+            made.push(copy);
+        }
+        made.pop().expect("the walk begins with the expression")
+    }
+}
+
+impl fmt::Debug for Expr {
+    /// Shows the JSON form, with `#` too: fields within fields are indented at a cost that grows with the square of the height and more.
+    fn fmt(&self, f: &mut fmt::Formatter<'_>) -> fmt::Result {
+        write!(f, "Expr({})", self.to_json())
     }
 }
 

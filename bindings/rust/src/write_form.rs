@@ -7,26 +7,94 @@ impl Expr {
     /// The JSON form, without a space and with the members of objects in byte order, as the library writes it.
     pub fn to_json(&self) -> String {
         let mut out = String::new();
-        write_expr(&mut out, self);
+        // The expressions that have no end yet, the highest first, with the number of their children that were written.
+        let mut open = vec![(self, 0)];
+        while let Some((expr, number)) = open.last_mut() {
+            match write_part(&mut out, expr, *number) {
+                Some(child) => {
+                    *number += 1;
+                    open.push((child, 0));
+                }
+                None => drop(open.pop()),
+            }
+        }
         out
     }
 }
 
-fn write_expr(out: &mut String, expr: &Expr) {
+/// Writes what an expression has before the child of this number, in the order of the form, and returns the child; or its end.
+fn write_part<'a>(out: &mut String, expr: &'a Expr, number: usize) -> Option<&'a Expr> {
     match expr {
-        Expr::Aggregate(it) => {
-            write_expr(named(out, "{\"expr\":"), &it.expr);
-            write_texts(named(out, ",\"grouping\":"), &it.grouping);
-            write_string(named(out, ",\"op\":"), &it.op);
-            write_or_null(named(out, ",\"param\":"), it.param.as_deref(), write_expr);
-            out.push_str(&format!(",\"type\":\"aggregation\",\"without\":{}}}", it.without));
+        Expr::Aggregate(it) => write_aggregate_part(out, it, number),
+        Expr::Binary(it) => write_binary_part(out, it, number),
+        Expr::Call(it) => write_call_part(out, it, number),
+        Expr::Paren(ParenExpr { expr }) | Expr::Unary(UnaryExpr { expr }) | Expr::Subquery(SubqueryExpr { expr, .. }) if number == 0 => {
+            out.push_str("{\"expr\":");
+            Some(expr)
         }
-        Expr::Binary(it) => write_binary(out, it),
-        Expr::Call(it) => {
-            write_list(named(out, "{\"args\":"), &it.args, write_expr);
-            write_function(named(out, ",\"func\":"), it);
+        _ => {
+            write_end(out, expr);
+            None
+        }
+    }
+}
+
+fn write_aggregate_part<'a>(out: &mut String, it: &'a AggregateExpr, number: usize) -> Option<&'a Expr> {
+    if number == 0 {
+        out.push_str("{\"expr\":");
+        return Some(&it.expr);
+    }
+    if number == 1 {
+        write_texts(named(out, ",\"grouping\":"), &it.grouping);
+        write_string(named(out, ",\"op\":"), &it.op);
+        out.push_str(",\"param\":");
+        if let Some(param) = &it.param {
+            return Some(param);
+        }
+        out.push_str("null");
+    }
+    out.push_str(&format!(",\"type\":\"aggregation\",\"without\":{}}}", it.without));
+    None
+}
+
+fn write_binary_part<'a>(out: &mut String, it: &'a BinaryExpr, number: usize) -> Option<&'a Expr> {
+    match number {
+        0 => {
+            out.push_str(&format!("{{\"bool\":{},\"lhs\":", it.return_bool));
+            Some(&it.lhs)
+        }
+        1 => {
+            write_or_null(named(out, ",\"matching\":"), it.matching.as_ref(), write_matching);
+            write_string(named(out, ",\"op\":"), &it.op);
+            out.push_str(",\"rhs\":");
+            Some(&it.rhs)
+        }
+        _ => {
+            out.push_str(",\"type\":\"binaryExpr\"}");
+            None
+        }
+    }
+}
+
+fn write_call_part<'a>(out: &mut String, it: &'a Call, number: usize) -> Option<&'a Expr> {
+    if number == 0 {
+        out.push_str("{\"args\":[");
+    }
+    let arg = it.args.get(number);
+    match arg {
+        Some(_) if number > 0 => out.push(','),
+        Some(_) => {}
+        None => {
+            write_function(named(out, "],\"func\":"), it);
             out.push_str(",\"type\":\"call\"}");
         }
+    }
+    arg
+}
+
+/// Writes an expression without children, or what an expression has after its one child.
+fn write_end(out: &mut String, expr: &Expr) {
+    match expr {
         Expr::MatrixSelector(it) => {
             let mode = match it.mode {
                 RangeMode::Plain => "",
@@ -37,20 +105,16 @@ fn write_expr(out: &mut String, expr: &Expr) {
             out.push_str(",\"type\":\"matrixSelector\"}");
         }
         Expr::NumberLiteral(it) => write_literal(out, "numberLiteral", &it.val),
-        Expr::Paren(it) => {
-            write_expr(named(out, "{\"expr\":"), &it.expr);
-            out.push_str(",\"type\":\"parenExpr\"}");
-        }
+        Expr::Paren(_) => out.push_str(",\"type\":\"parenExpr\"}"),
         Expr::StringLiteral(it) => write_literal(out, "stringLiteral", &it.val),
-        Expr::Subquery(it) => write_subquery(out, it),
-        Expr::Unary(it) => {
-            write_expr(named(out, "{\"expr\":"), &it.expr);
-            out.push_str(",\"op\":\"-\",\"type\":\"unaryExpr\"}");
-        }
+        Expr::Subquery(it) => write_subquery_end(out, it),
+        Expr::Unary(_) => out.push_str(",\"op\":\"-\",\"type\":\"unaryExpr\"}"),
         Expr::VectorSelector(it) => {
             write_selector(out, it, "");
             out.push_str(",\"type\":\"vectorSelector\"}");
         }
+        // (their parts are written by functions of their own)
+        Expr::Aggregate(_) | Expr::Binary(_) | Expr::Call(_) => {}
     }
 }
 
@@ -91,15 +155,6 @@ fn write_text_or_null(out: &mut String, text: &Option<String>) {
     write_or_null(out, text.as_deref(), write_string);
 }
 
-fn write_binary(out: &mut String, it: &BinaryExpr) {
-    out.push_str(&format!("{{\"bool\":{}", it.return_bool));
-    write_expr(named(out, ",\"lhs\":"), &it.lhs);
-    write_or_null(named(out, ",\"matching\":"), it.matching.as_ref(), write_matching);
-    write_string(named(out, ",\"op\":"), &it.op);
-    write_expr(named(out, ",\"rhs\":"), &it.rhs);
-    out.push_str(",\"type\":\"binaryExpr\"}");
-}
-
 fn write_matching(out: &mut String, it: &VectorMatching) {
     out.push_str("{\"card\":");
     match &it.card {
@@ -120,9 +175,8 @@ fn write_matching(out: &mut String, it: &VectorMatching) {
     out.push_str(&format!(",\"on\":{}}}", it.on));
 }
 
-fn write_subquery(out: &mut String, it: &SubqueryExpr) {
+fn write_subquery_end(out: &mut String, it: &SubqueryExpr) {
     let (start_or_end, timestamp) = words_of(it.at);
-    write_expr(named(out, "{\"expr\":"), &it.expr);
     out.push_str(&format!(",\"offset\":{},\"range\":{},\"startOrEnd\":{start_or_end}", it.offset, it.range));
     write_or_null(named(out, ",\"step\":"), it.step.as_ref(), |out, step| out.push_str(&step.to_string()));
     out.push_str(&format!(",\"timestamp\":{timestamp},\"type\":\"subquery\"}}"));

@@ -1,8 +1,8 @@
 //! Each function, its errors, and calls side by side.
 
 use promql_proved::{
-    Error, Layout, Rejection, canonical, check, collect, enforce, format, json, placed_json, print_tree,
-    rename_label, rename_metric, version,
+    Error, Layout, Rejection, Target, canonical, check, collect, enforce, format, json, placed_json, print_tree,
+    rename_label, rename_metric, set_target, version,
 };
 use std::thread;
 
@@ -33,6 +33,23 @@ fn queries_are_laid_out() {
     let wanted = "  sum by (job) (\n    rate(foo[5m])\n  )";
     assert_eq!(format("sum by (job) (rate(foo[5m]))", narrow).as_deref(), Ok(wanted));
     assert_eq!(format("a+b", Layout::default()).as_deref(), Ok("a + b"));
+}
+
+// (no other test has a query that a target reads otherwise)
+#[test]
+fn targets_read_byte_escapes_otherwise() {
+    let query = r#"a{b="\xc3\xa9"}"#;
+    let line = r#"a{b="Ã©"}"#;
+    let placed = |found: Result<String, Error>| matches!(found, Err(Error::ReadOtherwise(it)) if it.range == (5..9));
+    assert!(placed(check(query).map(|()| String::new())));
+    assert!(placed(enforce(query, "c='1'")));
+    assert!(placed(rename_metric(query, "a", "a")));
+    assert!(matches!(enforce("a", r#"b="\xc3""#), Err(Error::MatcherReadOtherwise(_))));
+    assert_eq!(canonical(query).as_deref(), Ok(line));
+    set_target(Target::Rules);
+    let found = (check(query), enforce(query, "c='1'"), rename_metric(query, "a", "a"));
+    set_target(Target::Prometheus3);
+    assert_eq!(found, (Ok(()), Ok(r#"a{b="Ã©",c="1"}"#.to_owned()), Ok(line.to_owned())));
 }
 
 #[test]
@@ -118,6 +135,7 @@ fn rejections_are_explained() {
         ("foo{a=b}", r#"string"#, r#"identifier "b""#, r#"unexpected identifier "b", expected string"#),
         (r#"foo{a=="b"}"#, "string", r#""=""#, r#"unexpected "=", expected string; a matcher has one "=""#),
         ("sum by (job 1) (foo)", r#""," ")""#, r#"number "1""#, r#"unexpected number "1", expected "," or ")""#),
+        (r#"foo{a=~"\\w{690}"b}"#, r#""," "}" "or""#, r#"identifier "b""#, r#"unexpected identifier "b", expected ",", "}" or "or""#),
     ] {
         let told = rejection(query).explain(query);
         assert_eq!((told.expected.join(" "), told.found.as_deref(), told.message), (expected.to_owned(), Some(found), message.to_owned()));
@@ -134,10 +152,9 @@ fn too_many_levels_are_explained() {
 
 #[test]
 fn some_rejections_have_no_more_to_tell() {
-    // Not a syntax error; patterns that are too large; a query that the rejection is not of.
+    // Not a syntax error; a query that the rejection is not of.
     for (query, other, message) in [
         ("nosuch(1)", "nosuch(1)", "unknown function with name 'nosuch'"),
-        (r#"foo{a=~"\\w{690}"} b"#, r#"foo{a=~"\\w{690}"} b"#, "invalid promql query"),
         ("1 +", "1", "invalid promql query"),
     ] {
         let told = rejection(query).explain(other);

@@ -252,9 +252,97 @@ fn faults_name_their_nodes() {
 }
 
 #[test]
+#[cfg_attr(not(print_tree), ignore = "the library has no promql_print_tree")]
+fn large_trees_are_rejected() {
+    let said = |form: &str| match print_tree(form, false, None) {
+        Err(Error::TooLargeTree(message)) => message,
+        other => panic!("{other:?}"),
+    };
+    assert_eq!(said(r#"{"type":"=~","value":"c{3000}"}"#), "patterns are too large: 39013, at most 16000");
+    let two = r#"[{"type":"=~","value":"c{1000}"},[{"type":"!~","value":"c{1000}"}]]"#;
+    assert_eq!(said(two), "patterns are too large: 26026, at most 16000");
+    // (the limit is that of all tests, which print no tree as long as this one)
+    let long = format!(r#"{{"type":"stringLiteral","val":"{}"}}"#, "a".repeat(20_000));
+    set_max_tree(20_032);
+    assert_eq!(said(&long), "tree is too long: 20033 bytes, at most 20032");
+    set_max_tree(4_194_304);
+    assert_eq!(print_tree(&long, false, None).unwrap().len(), 20_002);
+}
+
+#[test]
 fn nodes_have_places() {
     let query = "sum by (job) (rate(a{job='é'}[5m])) / -1";
     let parts: Vec<&str> = places(query).unwrap().into_iter().map(|it| &query[it]).collect();
     assert_eq!(parts, [query, "sum by (job) (rate(a{job='é'}[5m]))", "rate(a{job='é'}[5m])", "a{job='é'}[5m]", "-1"]);
     assert!(matches!(places("1 +"), Err(Error::Rejected(found)) if found.range == (3..3)));
+}
+
+/// A query with a list of so many items in each place of a tree that has one, and what `from_json` and `print` make of it.
+#[test]
+#[cfg_attr(not(print_tree), ignore = "the library has no promql_print_tree")]
+fn lists_of_any_length_are_read_and_printed() {
+    for count in [0, 1, 21, 1_000] {
+        let labels = (0..count).map(|number| format!("l{number:04}")).collect::<Vec<_>>().join(", ");
+        let matchers = (0..count).map(|number| format!("l{number:04}=\"1\"")).collect::<Vec<_>>().join(",");
+        let groups = (0..count.max(2)).map(|number| format!("l{number:04}=\"1\"")).collect::<Vec<_>>().join(" or ");
+        let args = (0..count.max(3)).map(|number| format!("\"l{number:04}\"")).collect::<Vec<_>>().join(", ");
+        for query in [
+            format!("sum by ({labels}) (a)"),
+            format!("sum without ({labels}) (a)"),
+            format!("a + on ({labels}) b"),
+            format!("a + ignoring (x) group_left ({labels}) b"),
+            format!("a + on () group_right ({labels}) b"),
+            format!("a{{x=\"1\",{matchers}}}"),
+            format!("a{{{groups}}}[5m]"),
+            format!("label_join(a, {args})"),
+        ] {
+            let line = canonical(&query).unwrap();
+            let tree = parsed(&query);
+            assert_eq!(tree.to_json(), json(&query).unwrap(), "{query}");
+            assert_eq!(Expr::from_json(&tree.to_json()).as_ref(), Ok(&tree), "{query}");
+            assert_eq!(print(&tree), Ok(line), "{query}");
+        }
+    }
+}
+
+#[test]
+#[cfg_attr(not(print_tree), ignore = "the library has no promql_print_tree")]
+fn an_empty_matching_below_a_grouping_stays() {
+    for (query, card) in [
+        ("a + ignoring () group_left () b", VectorMatchCardinality::ManyToOne(Vec::new())),
+        ("a + ignoring () group_right (c) b", VectorMatchCardinality::OneToMany(texts(&["c"]))),
+    ] {
+        let matching = VectorMatching { card, ..VectorMatching::default() };
+        let tree = Expr::Binary(binary("+", Expr::selector("a"), Expr::selector("b"), Some(matching)));
+        assert_eq!(parse(query).as_ref(), Ok(&tree));
+        assert_eq!(Expr::from_json(&tree.to_json()).as_ref(), Ok(&tree));
+        assert_eq!(print(&tree).as_deref(), Ok(query));
+        assert_eq!(canonical(query).as_deref(), Ok(query));
+    }
+}
+
+#[test]
+#[cfg_attr(not(print_tree), ignore = "the library has no promql_print_tree")]
+fn long_texts_are_in_errors_as_they_are() {
+    let long = "é".repeat(35_000);
+    let error = Expr::from_json(&format!(r#"{{"type":"numberLiteral","val":"1","{long}":1}}"#)).unwrap_err();
+    assert_eq!((error.path, &*error.message), (format!("$.{long}"), "unknown member"));
+    let error = print_tree(&format!(r#"{{"type":"numberLiteral","val":"1","{long}":1}}"#), true, None).unwrap_err();
+    assert_eq!(error, Error::NotATree(format!("$.{long}: no such member")));
+    for tree in [Expr::call(&long, []), number(&long), Expr::aggregate_by(&long, &[], Expr::selector("a"))] {
+        assert!(fault(&tree).message.len() < 100);
+        assert_eq!(Expr::from_json(&tree.to_json()).is_ok(), !matches!(tree, Expr::Call(_)));
+    }
+    assert!(matches!(*fault(&Expr::selector(&long)).cause, Error::TooLargeTree(_)));
+}
+
+#[test]
+#[cfg_attr(not(print_tree), ignore = "the library has no promql_print_tree")]
+fn long_names_are_read_and_printed() {
+    let name = "n".repeat(200);
+    let query = format!("sum by ({name}) ({name}{{{name}=\"1\"}})");
+    assert_eq!(print(&parsed(&query)).as_deref(), Ok(&*query));
+    let tree = Expr::Paren(ParenExpr { expr: boxed(Expr::call(&name, [])) });
+    assert_eq!(fault(&tree).node(&tree), &Expr::call(&name, []));
+    assert!(matches!(parse(&format!("{name}(a)")), Err(Error::Rejected(rejection)) if rejection.range == (0..200)));
 }

@@ -6,6 +6,7 @@ import (
 	"fmt"
 	"io"
 	"net/http"
+	"promql"
 	"promql/cmd/promql-proxy/internal/endpoint"
 	"promql/cmd/promql-proxy/internal/logs"
 	"promql/cmd/promql-proxy/internal/tenant"
@@ -27,7 +28,7 @@ type options struct {
 	maxQuery, maxPatterns            uint
 	maxRequests                      int
 	logQueries, version              bool
-	logLevel                         string
+	logLevel, target                 string
 }
 
 // words is a flag that may be given several times.
@@ -75,6 +76,7 @@ func (o *options) flags(out io.Writer) *flag.FlagSet {
 	flags.BoolVar(&o.tenants.List, "tenant-list", false, "the header or the parameter has several tenants, with commas between them")
 	flags.Var(&o.more, "pass-parameter", "the name of one more parameter that the Prometheus gets; several times for several")
 	o.addLimits(flags)
+	flags.StringVar(&o.target, "target", "prometheus-3", "what reads the queries: prometheus-3, or rules, to let byte escapes through")
 	flags.StringVar(&o.logLevel, "log-level", "info", "the least level that is logged: info, warn or error")
 	flags.BoolVar(&o.logQueries, "log-queries", false, "log queries, selectors and messages about them")
 	flags.BoolVar(&o.version, "version", false, "print the version and end")
@@ -116,6 +118,9 @@ func (o *options) check() error {
 		if name == "" || name == o.tenants.Parameter {
 			return fmt.Errorf("-pass-parameter: %q is not passed on", name)
 		}
+	}
+	if _, err := promql.ParseTarget(o.target); err != nil {
+		return fmt.Errorf("-target: %w", err)
 	}
 	if _, err := logs.ParseLevel(o.logLevel); err != nil {
 		return fmt.Errorf("-log-level: %w", err)

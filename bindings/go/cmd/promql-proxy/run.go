@@ -37,6 +37,13 @@ func newService(o *options, log *logs.Logger) (*service, error) {
 		return nil, err
 	}
 	promql.SetLimits(o.maxQuery, o.maxPatterns)
+	target, err := promql.ParseTarget(o.target)
+	if err != nil {
+		return nil, fmt.Errorf("-target: %w", err)
+	}
+	if err := promql.SetTarget(target); err != nil {
+		return nil, fmt.Errorf("-target: %w", err)
+	}
 	if err := o.tenants.Check(); err != nil {
 		return nil, fmt.Errorf("within -max-query and -max-patterns: %w", err)
 	}

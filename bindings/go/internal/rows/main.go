@@ -197,7 +197,10 @@ func main() {
 	if err != nil {
 		log.Fatal(err)
 	}
-	promql.SetLimits(1048576, 32000) // those of the stored run
+	promql.SetLimits(1048576, 32000) // those of the stored run, whose queries have no target
+	if err := promql.SetTarget(promql.Rules); err != nil {
+		log.Fatal(err)
+	}
 	switch {
 	case words[0] == "rows" && len(words) == 2:
 		rows(calls(data), 0)

@@ -10,7 +10,9 @@
 mod random;
 mod trees;
 
-use promql_proved::{Error, Layout, canonical, check, enforce, format, json, placed_json, set_limits};
+use promql_proved::{
+    Error, Layout, Target, canonical, check, enforce, format, json, placed_json, set_limits, set_target,
+};
 use random::Random;
 use std::io::{self, BufWriter, Write};
 use std::{env, fs, str, thread};
@@ -156,8 +158,9 @@ fn main() {
     let words: Vec<String> = env::args().skip(1).collect();
     let words: Vec<&str> = words.iter().map(String::as_str).collect();
     let number = |word: &str| word.parse().expect("a number");
-    // Those of the stored run.
+    // Those of the stored run, whose queries have no target.
     set_limits(1_048_576, 32_000);
+    set_target(Target::Rules);
     let bytes = fs::read(words.get(1).expect("a file of calls")).expect("the file is read");
     match words[..] {
         ["rows", _] => rows(&calls(&bytes), 0),

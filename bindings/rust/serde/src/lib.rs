@@ -35,22 +35,58 @@ impl<'de> Deserialize<'de> for Tree {
 ///
 /// # Errors
 ///
-/// Those of the serializer, and those of `Expr::from_json`: a number of milliseconds is below -2^63 or above 2^64 - 1.
+/// Those of the serializer, and those of `Expr::from_json`: a number of milliseconds is below -2^63 or above 2^64 - 1, more than 512 nodes
+/// are above one another, or more than 64 and the thread has less than 1.25 MiB of stack left.
 pub fn serialize<S: Serializer>(expr: &Expr, serializer: S) -> Result<S::Ok, S::Error> {
-    let form = expr.to_json();
     // (a number that is too wide would be rounded)
-    Expr::from_json(&form).map_err(S::Error::custom)?;
-    let mut reader = serde_json::Deserializer::from_str(&form);
-    // (a query is nested as deeply as the library lets it)
-    reader.disable_recursion_limit();
-    Value::deserialize(&mut reader).map_err(S::Error::custom)?.serialize(serializer)
+    Expr::from_json(&expr.to_json()).map_err(S::Error::custom)?;
+    value_of(expr).map_err(S::Error::custom)?.serialize(serializer)
+}
+
+/// The JSON form as a value. It is made from the leaves up, since a reader of the whole form would need more stack than all else.
+fn value_of(expr: &Expr) -> serde_json::Result<Value> {
+    let mut made: Vec<Value> = Vec::new();
+    let mut outcome = Ok(());
+    expr.clone().transform(&mut |node| {
+        // (its children were made before, and what is in their places is small)
+        let children = made.split_off(made.len() - node.children().len());
+        match serde_json::from_str(&node.to_json()) {
+            Ok(form) => made.push(with_children(form, &node, children)),
+            Err(error) => {
+                outcome = Err(error);
+                made.push(Value::Null);
+            }
+        }
+        Expr::from(0.0)
+    });
+    outcome.map(|()| made.pop().unwrap_or_default())
+}
+
+/// The form of a node, with the forms of its children in their places.
+fn with_children(mut form: Value, node: &Expr, children: Vec<Value>) -> Value {
+    let mut children = children.into_iter();
+    let names: &[&str] = match node {
+        Expr::Aggregate(it) if it.param.is_some() => &["param", "expr"],
+        Expr::Binary(_) => &["lhs", "rhs"],
+        Expr::Call(_) => {
+            form["args"] = Value::Array(children.collect());
+            return form;
+        }
+        Expr::Aggregate(_) | Expr::Paren(_) | Expr::Subquery(_) | Expr::Unary(_) => &["expr"],
+        _ => &[],
+    };
+    for (name, child) in names.iter().zip(&mut children) {
+        form[*name] = child;
+    }
+    form
 }
 
 /// Reads an expression from its JSON form.
 ///
 /// # Errors
 ///
-/// Those of the deserializer, and those of `Expr::from_json`, with the path of the first part at fault.
+/// Those of the deserializer, and those of `Expr::from_json`, with the path of the first part at fault. A form that is deeper than the
+/// deserializer reads is an error of it: `serde_json` reads 127 arrays and objects within one another, unless it is told otherwise.
 pub fn deserialize<'de, D: Deserializer<'de>>(deserializer: D) -> Result<Expr, D::Error> {
     let form = Value::deserialize(deserializer)?;
     Expr::from_json(&form.to_string()).map_err(D::Error::custom)

@@ -31,6 +31,23 @@ fn deep_trees_are_written() {
     assert_eq!(serde_json::to_string(&tree).unwrap().len(), json(&query).unwrap().len());
 }
 
+/// The deepest tree of a query, in threads with little stack and with what a call needs.
+#[test]
+fn deep_trees_are_written_or_an_error_says_why() {
+    let query = ["abs(".repeat(511), String::from("a"), ")".repeat(511)].concat();
+    let (tree, form) = (Tree(parse(&query).unwrap()), json(&query).unwrap());
+    for kib in [64, 256, 1024, 1290, 1310, 1330, 1536, 2048] {
+        let written = std::thread::scope(|scope| {
+            let builder = std::thread::Builder::new().stack_size(kib * 1024);
+            builder.spawn_scoped(scope, || serde_json::to_string(&tree)).unwrap().join().unwrap()
+        });
+        match written {
+            Ok(text) => assert_eq!(text.len(), form.len(), "{kib}"),
+            Err(error) => assert!(kib < 1536 && error.to_string().ends_with("less than 1.25 MiB of stack left"), "{kib}: {error}"),
+        }
+    }
+}
+
 #[test]
 fn other_values_are_faults() {
     let fault = serde_json::from_str::<Tree>(r#"{"type":"parenExpr","expr":{"type":"numberLiteral"}}"#).unwrap_err();
