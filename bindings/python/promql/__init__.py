@@ -18,7 +18,7 @@ from functools import cached_property
 from operator import index
 from typing import Any, Dict, Iterable, List, Mapping, NamedTuple, Optional, Tuple, Type, Union
 
-from ._answers import Answer, Failure, Mode, Named, Status
+from ._answers import Answer, Failure, Mode, Named, Status, Target
 from ._calls import calls as _caller
 
 __all__ = [
@@ -29,6 +29,7 @@ __all__ = [
     "MatcherError",
     "NumberTooWideError",
     "QueryError",
+    "ReadOtherwiseError",
     "RenameError",
     "SmallStackError",
     "TooLargeError",
@@ -42,12 +43,14 @@ __all__ = [
     "enforce",
     "format",
     "format_query",
+    "limits",
     "parse",
     "places",
     "print_tree",
     "rename_label",
     "rename_metric",
     "set_limits",
+    "set_target",
     "version",
 ]
 __version__ = "0.5.0"
@@ -57,6 +60,10 @@ _EXPLAINED = ("invalid promql query", "expression nested too deeply")
 _MAX_LEVEL = 512
 _MAX_WIDTH = 2**64 - 1
 _MAX_LIMIT = 2**64 - 1
+# The greatest width and indentation of a layout for people.
+MAX_LINE = 65_535
+_MAX_INDENT = 16
+TARGETS = {"prometheus-3": Target.PROMETHEUS_3, "rules": Target.RULES}
 
 
 class Error(ValueError):
@@ -68,7 +75,8 @@ class NumberTooWideError(Error):
 
 
 class MatcherError(Error):
-    """A text is not one matcher, or is one of the metric's name, which cannot be enforced."""
+    """A text is not one matcher, or is one of the metric's name, which cannot be enforced, or is one that the target reads otherwise
+    (`set_target`)."""
 
 
 class RenameError(Error):
@@ -100,7 +108,7 @@ class TreeError(Error):
 
 
 class TooLargeTreeError(Error):
-    """The line of a tree is too long, or its patterns are too large together (`set_limits`)."""
+    """The JSON text of a tree or its line is too long, or its patterns are too large together (`set_limits`)."""
 
 
 class _Explanation(NamedTuple):
@@ -170,13 +178,40 @@ class TooLargeError(QueryError):
     """The query is too long, or its patterns are too large together (`set_limits`)."""
 
 
-def set_limits(*, max_len: int = 32_768, max_patterns: int = 16_000, max_output: int = 4_194_304) -> None:
+class ReadOtherwiseError(QueryError):
+    """The target reads a part of the query otherwise (`set_target`)."""
+
+
+def set_target(name: str) -> None:
+    """Sets what reads each later query that `enforce`, `rename_metric`, `rename_label` and `format_query` return and `check` checks, in this
+    process: `"prometheus-3"`, as before the first call, or `"rules"`, the rules of this library alone (docs/reference/programs.md,
+    "Targets"). A query that it reads otherwise raises ReadOtherwiseError. Raises ValueError where there is no such target."""
+    if name not in TARGETS:
+        raise ValueError(f"no target is called {name!r}: {', '.join(TARGETS)}")
+    _caller.set_target(TARGETS[name])
+
+
+_limits = {"max_len": 32_768, "max_patterns": 16_000, "max_output": 4_194_304, "max_tree": 4_194_304}
+
+
+def set_limits(
+    *, max_len: int = 32_768, max_patterns: int = 16_000, max_output: int = 4_194_304, max_tree: int = 4_194_304
+) -> None:
     """Sets what each later query has to be within, in this process: at most so many bytes, and patterns of at most this size together
     (docs/reference/programs.md, "Limits of a query"). A query that is not raises TooLargeError before it is parsed. A matcher that is
     enforced, and the query with it, have the same limits: where they are not within them, `enforce` raises LargeEnforcedError.
-    `canonical`, `format` and `parse` raise LongOutputError where the text that they make has more than `max_output` bytes."""
-    limits = {"max_len": max_len, "max_patterns": max_patterns, "max_output": max_output}
-    _caller.set_limits(*(_number(name, limit, _MAX_LIMIT) for name, limit in limits.items()))
+    `canonical`, `format` and `parse` raise LongOutputError where the text that they make has more than `max_output` bytes. `print_tree`
+    raises TooLargeTreeError where the JSON text of the tree has more than `max_tree` bytes, or its patterns are larger than those of a query
+    may be, before anything of it is compiled."""
+    wanted = {"max_len": max_len, "max_patterns": max_patterns, "max_output": max_output, "max_tree": max_tree}
+    numbers = {name: _number(name, limit, _MAX_LIMIT) for name, limit in wanted.items()}
+    _caller.set_limits(*numbers.values())
+    _limits.update(numbers)
+
+
+def limits() -> Dict[str, int]:
+    """The limits that `set_limits` set in this process last, or those that it sets where nothing is said."""
+    return dict(_limits)
 
 
 def parse(query: str, *, places: bool = False) -> Dict[str, Any]:
@@ -214,9 +249,9 @@ def print_tree(tree: Mapping[str, object], *, parentheses: bool = False, width: 
 
     With `parentheses` the tree gets parentheses where it needs them. What is returned was read again, and means the tree
     (docs/reference/json.md). Raises TreeError where the tree is no such form, UnfaithfulError where its line would not mean it,
-    because of a type or of parentheses, say, and TooLargeTreeError where the line is not within the limits of a query.
+    because of a type or of parentheses, say, and TooLargeTreeError where its JSON text or its line is not within the limits (`set_limits`).
     """
-    form = json.dumps(tree, ensure_ascii=False)
+    form = json.dumps(tree, ensure_ascii=False, separators=(",", ":"))
     if width is None:
         return _tree_text(_caller.print_tree(form, Mode.LINE, 0, 0, int(parentheses)))
     level, width = _number("level", level, _MAX_LEVEL), _number("width", width, _MAX_WIDTH)
@@ -233,12 +268,12 @@ def format(query: str, *, width: int = 100, level: int = 0) -> str:
 
 def format_query(query: str, *, width: int = 100, indent: int = 2, keep_spelling: bool = False) -> str:
     """The query, laid out for people (docs/reference/formatting.md): comments stay, chains of operators are flat, and a line has at most
-    `width` characters, its indentation counted, where it can be broken. An indentation has `indent` spaces.
+    `width` characters, its indentation counted, where it can be broken. An indentation has `indent` spaces. They are at most 65,535 and 16.
 
     With `keep_spelling` numbers, durations, strings and the order of what is written stay, too. What is returned was read again: it has the
     query's tree and comments. Raises UnfaithfulError where it has not; there is no query for which this was seen.
     """
-    size, spaces = _number("width", width, _MAX_WIDTH), _number("indent", indent, _MAX_WIDTH)
+    size, spaces = _number("width", width, MAX_LINE), _number("indent", indent, _MAX_INDENT)
     return _text(query, _caller.format_query(query, size, spaces, int(keep_spelling)))
 
 
@@ -311,7 +346,7 @@ def places(query: str) -> List[Tuple[int, int]]:
 
 
 def check(query: str) -> None:
-    """Returns where the query is accepted, and else raises QueryError."""
+    """Returns where the query is accepted, and the target reads it as it is read here (`set_target`), and else raises QueryError."""
     _text(query, _caller.check(query))
 
 
@@ -352,6 +387,13 @@ def _tree_error(failure: Failure) -> Exception:
     return _TREE_ERRORS[status](message) if status in _TREE_ERRORS else _error("", failure)
 
 
+# The errors of a part of a query.
+_PLACED_ERRORS: Dict[int, Type[QueryError]] = {
+    Status.REJECTED: QueryError,
+    Status.TOO_LARGE: TooLargeError,
+    Status.READ_OTHERWISE: ReadOtherwiseError,
+}
+
 # The errors without a place.
 _ERRORS: Dict[int, Type[Exception]] = {
     Status.NUMBER_TOO_WIDE: NumberTooWideError,
@@ -363,6 +405,7 @@ _ERRORS: Dict[int, Type[Exception]] = {
     Status.NOT_A_NAME: RenameError,
     Status.METRIC_LABEL: RenameError,
     Status.CLASH: RenameError,
+    Status.READ_OTHERWISE: MatcherError,
     Status.OUT_OF_MEMORY: MemoryError,
 }
 
@@ -370,10 +413,10 @@ _ERRORS: Dict[int, Type[Exception]] = {
 def _error(query: str, failure: Failure) -> Exception:
     """The error of a call about this query."""
     status, message, first, last, line, column = failure
-    if status in (Status.REJECTED, Status.TOO_LARGE):
+    # (of a matcher it has no place)
+    if status in _PLACED_ERRORS and line:
         start, end = (len(str.encode(query)[:at].decode()) for at in (first, last))
-        kind = QueryError if status == Status.REJECTED else TooLargeError
-        return kind(message, query, start, end, line, column)
+        return _PLACED_ERRORS[status](message, query, start, end, line, column)
     if status == Status.SMALL_STACK:
         return SmallStackError("the thread has less than 1.25 MiB of stack left")
     return _ERRORS.get(status, Error)(message)

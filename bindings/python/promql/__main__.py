@@ -9,7 +9,7 @@ import signal
 import sys
 from typing import List, Optional, TextIO
 
-from . import __version__, check_command, completion_command, format_command, lint_command, lsp_command, page
+from . import __version__, check_command, completion_command, format_command, lint_command, lsp_command, page, set_target
 from .documents import Status
 
 COMMANDS = (
@@ -29,15 +29,21 @@ def main(arguments: Optional[List[str]] = None) -> int:
     for command in COMMANDS:
         command.add_parser(subparsers)
     chosen = parser.parse_args(arguments)
+    if "target" in chosen:
+        # (processes that a command forks have it, too)
+        set_target(chosen.target)
     status: int = chosen.run(chosen)
     return status
 
 
 def program() -> int:
-    """The same as a program: it ends by the signal where nobody reads its output, and says so where that cannot be written."""
+    """The same as a program: it ends by the signal where nobody reads its output, or somebody ends it, and says so where its output
+    cannot be written."""
     if sys.argv[1:2] in (["serve"], ["lsp"]):
         return main()
     signal.signal(signal.SIGPIPE, signal.SIG_DFL)
+    if signal.getsignal(signal.SIGINT) is signal.default_int_handler:
+        signal.signal(signal.SIGINT, signal.SIG_DFL)
     # (a stream that was closed is None, and `print` takes standard output for that)
     if sys.stderr is None:
         sys.stderr = open(os.devnull, "w", encoding="utf-8")

@@ -28,6 +28,12 @@ class Status(IntEnum):
     NOT_A_NAME = 20
     METRIC_LABEL = 21
     CLASH = 22
+    READ_OTHERWISE = 23
+
+
+class Target(IntEnum):
+    PROMETHEUS_3 = 0
+    RULES = 1
 
 
 class Named(IntEnum):
@@ -80,7 +86,9 @@ class Calls(Protocol):
 
     def rename(self, query: str, kind: int, old: str, new: str, /) -> Answer: ...
 
-    def set_limits(self, max_len: int, max_pattern_size: int, max_output: int, /) -> None: ...
+    def set_limits(self, max_len: int, max_pattern_size: int, max_output: int, max_tree: int, /) -> None: ...
+
+    def set_target(self, number: int, /) -> None: ...
 
     def snippet(self, query: str, start: int, end: int, /) -> Answer: ...
 

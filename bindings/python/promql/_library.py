@@ -60,7 +60,9 @@ def load() -> ctypes.CDLL:
         if function is not None:
             function.argtypes, function.restype = arguments, ctypes.c_uint32
     library.promql_set_limits.argtypes, library.promql_set_limits.restype = [ctypes.c_size_t, ctypes.c_size_t], None
-    library.promql_set_max_output.argtypes, library.promql_set_max_output.restype = [ctypes.c_size_t], None
+    library.promql_set_target.argtypes, library.promql_set_target.restype = [ctypes.c_uint32], ctypes.c_uint32
+    for set_bytes in (library.promql_set_max_output, library.promql_set_max_tree):
+        set_bytes.argtypes, set_bytes.restype = [ctypes.c_size_t], None
     return library
 
 
@@ -179,9 +181,15 @@ def print_tree(form: str, mode: int, level: int, width: int, parentheses: int) -
     return _answer(call("promql_print_tree", len(encoded), encoded, len(encoded), mode, level, width, parentheses))
 
 
-def set_limits(max_len: int, max_pattern_size: int, max_output: int) -> None:
+def set_limits(max_len: int, max_pattern_size: int, max_output: int, max_tree: int) -> None:
     _library.promql_set_limits(max_len, max_pattern_size)
     _library.promql_set_max_output(max_output)
+    _library.promql_set_max_tree(max_tree)
+
+
+def set_target(number: int) -> None:
+    if _library.promql_set_target(number) != Status.OK:
+        raise ValueError(f"no target has the number {number}")
 
 
 def version() -> Answer:

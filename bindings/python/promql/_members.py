@@ -5,6 +5,7 @@ from __future__ import annotations
 from typing import Any, Dict, List, Optional, Sequence, Set, Tuple, Type, TypeVar
 
 from . import Error
+from ._fields import HIGHEST, LOWEST
 
 Value = TypeVar("Value")
 
@@ -23,14 +24,27 @@ class FormError(Error):
 
 
 class Members:
-    """The members of an object of a form. Each is read once, and `end` rejects any other."""
+    """The members of an object of a form, which is the whole or below another one. Each is read once, and `end` rejects any other."""
 
-    def __init__(self, form: object, path: str) -> None:
+    def __init__(self, form: object, above: Optional[Members] = None, step: str = "$") -> None:
+        self._above = above
+        self._step = step
+        # How many forms are above it.
+        self.depth: int = 0 if above is None else above.depth + 1
         if not isinstance(form, dict):
-            raise FormError(path, "expected an object")
+            raise FormError(self.path, "expected an object")
         self._form: Dict[Any, Any] = form
         self._read: Set[str] = set()
-        self.path = path
+
+    @property
+    def path(self) -> str:
+        """Its path, which is made where an error needs it."""
+        steps: List[str] = []
+        members: Optional[Members] = self
+        while members is not None:
+            steps.append(members._step)
+            members = members._above
+        return ".".join(reversed(steps))
 
     def has(self, name: str) -> bool:
         return name in self._form
@@ -47,9 +61,13 @@ class Members:
 
     def end(self) -> None:
         """Raises FormError where there is a member that was not read."""
+        if len(self._form) == len(self._read):
+            return
         for name in self._form:
+            if not isinstance(name, str):
+                raise FormError(self.path, "expected members whose names are strings")
             if name not in self._read:
-                raise self.error(str(name), "unknown member")
+                raise self.error(name, "unknown member")
 
     def text(self, name: str) -> str:
         return self._of_type(name, str, "a string")
@@ -58,19 +76,24 @@ class Members:
         return self._of_type(name, bool, "true or false")
 
     def whole(self, name: str) -> int:
-        return self._of_type(name, int, "a whole number")
+        return self._in_range(name, self._of_type(name, int, "a whole number"))
 
     def text_or_none(self, name: str) -> Optional[str]:
         return None if self.value(name) is None else self._of_type(name, str, "a string or null")
 
     def whole_or_none(self, name: str) -> Optional[int]:
-        return None if self.value(name) is None else self._of_type(name, int, "a whole number or null")
+        return None if self.value(name) is None else self._in_range(name, self._of_type(name, int, "a whole number or null"))
+
+    def _in_range(self, name: str, number: int) -> int:
+        if not LOWEST <= number <= HIGHEST:
+            raise self.error(name, "expected a whole number from -2^63 to 2^64 - 1")
+        return number
 
     def word(self, name: str, words: Sequence[str]) -> str:
         found = self.value(name)
-        if found not in words:
+        if not isinstance(found, str) or found not in words:
             raise self.error(name, f"expected one of {', '.join(words)}")
-        return str(found)
+        return found
 
     def texts(self, name: str) -> Tuple[str, ...]:
         items = self.items(name)
@@ -83,10 +106,10 @@ class Members:
         return self._of_type(name, list, "a list")
 
     def below(self, name: str) -> Members:
-        return Members(self.value(name), f"{self.path}.{name}")
+        return Members(self.value(name), self, name)
 
     def objects(self, name: str) -> List[Members]:
-        return [Members(item, f"{self.path}.{name}[{number}]") for number, item in enumerate(self.items(name))]
+        return [Members(item, self, f"{name}[{number}]") for number, item in enumerate(self.items(name))]
 
     def _of_type(self, name: str, kind: Type[Value], words: str) -> Value:
         found = self.value(name)

@@ -38,6 +38,8 @@ struct library {
     __typeof__(promql_version) *version;
     __typeof__(promql_set_limits) *set_limits;
     __typeof__(promql_set_max_output) *set_max_output;
+    __typeof__(promql_set_max_tree) *set_max_tree;
+    __typeof__(promql_set_target) *set_target;
 };
 
 enum call { PRINT, CANONICAL, ENFORCE, RENAME, COLLECT, PLACES, CHECK, EXPLAIN, SNIPPET, PRINT_TREE, FORMAT_QUERY, VERSION };
@@ -178,7 +180,7 @@ static size_t first_room(const struct request *request)
 static int is_quick(const struct request *request)
 {
     if (request->matcher != NULL || request->mode == PROMQL_PRETTY || request->query_length > MOST_WITH_LOCK ||
-        request->call == EXPLAIN)
+        request->call == EXPLAIN || request->call == FORMAT_QUERY)
         return 0;
     return request->query_length == 0 || memchr(request->query, '~', request->query_length) == NULL;
 }
@@ -363,11 +365,23 @@ static PyObject *version(PyObject *module, PyObject *Py_UNUSED(nothing))
 static PyObject *set_limits(PyObject *module, PyObject *arguments)
 {
     const struct library *library = library_of(module);
-    unsigned long long max_len, max_pattern_size, max_output;
-    if (library == NULL || !PyArg_ParseTuple(arguments, "KKK", &max_len, &max_pattern_size, &max_output))
+    unsigned long long max_len, max_pattern_size, max_output, max_tree;
+    if (library == NULL || !PyArg_ParseTuple(arguments, "KKKK", &max_len, &max_pattern_size, &max_output, &max_tree))
         return NULL;
     library->set_limits((size_t)max_len, (size_t)max_pattern_size);
     library->set_max_output((size_t)max_output);
+    library->set_max_tree((size_t)max_tree);
+    return Py_BuildValue("");
+}
+
+static PyObject *set_target(PyObject *module, PyObject *number)
+{
+    const struct library *library = library_of(module);
+    unsigned long target = PyLong_AsUnsignedLong(number);
+    if (library == NULL || (target == (unsigned long)-1 && PyErr_Occurred()))
+        return NULL;
+    if (target > UINT32_MAX || library->set_target((uint32_t)target) != PROMQL_OK)
+        return PyErr_Format(PyExc_ValueError, "no target has the number %lu", target);
     return Py_BuildValue("");
 }
 
@@ -560,6 +574,7 @@ static PyObject *load(PyObject *module, PyObject *path)
         find(handle, "promql_snippet", &found.snippet) ||
         find(handle, "promql_version", &found.version) || find(handle, "promql_set_limits", &found.set_limits) ||
         find(handle, "promql_set_max_output", &found.set_max_output) ||
+        find(handle, "promql_set_max_tree", &found.set_max_tree) || find(handle, "promql_set_target", &found.set_target) ||
         find(handle, "promql_format_query", &found.format_query))
         return NULL;
     /* (an older library has none) */
@@ -587,6 +602,7 @@ static PyMethodDef methods[] = {
     {"print_tree", print_tree, METH_VARARGS, NULL},
     {"rename", rename_in_query, METH_VARARGS, NULL},
     {"set_limits", set_limits, METH_VARARGS, NULL},
+    {"set_target", set_target, METH_O, NULL},
     {"snippet", snippet, METH_VARARGS, NULL},
     {"version", version, METH_NOARGS, NULL},
     {NULL, NULL, 0, NULL},

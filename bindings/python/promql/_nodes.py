@@ -1,125 +1,24 @@
-"""The nodes of a tree: promql.tree says what they are for."""
+"""The expressions of a tree: promql.tree says what they are for."""
 
 from __future__ import annotations
 
 import dataclasses
 from dataclasses import dataclass
 from decimal import Decimal
-from typing import Any, ClassVar, Dict, Iterator, List, Literal, Optional, Sequence, Tuple, Type, TypeVar, Union, cast
+from typing import Any, ClassVar, Dict, Iterator, List, Optional, Sequence, Tuple, Type, TypeVar, Union, cast
 
+from ._fields import Check, flag, one, text, text_or_none, texts, time_after_at, tuple_of, whole, whole_or_none
 from ._members import FormError, Members
-from .forms import Form, MatchOp, RangeMode, StartOrEnd
+from ._parts import GROUPS, MATCHERS, Matcher, Matching, Node
+from .forms import Form, RangeMode, StartOrEnd
 from .functions import FUNCTIONS, Function
+
+_MOST_DIGITS = 400
+_TOO_MANY_DIGITS = f"the number has more than {_MOST_DIGITS} digits before or after its point"
 
 # The time after `@`: milliseconds since the epoch, `start` or `end`.
 At = Union[int, StartOrEnd]
-AnyNode = TypeVar("AnyNode", bound="Node")
 AnyExpr = TypeVar("AnyExpr", bound="Expr")
-
-
-class Node:
-    """What has fields: an expression, or a part of one."""
-
-    def replace(self: AnyNode, **fields: Any) -> AnyNode:
-        """The same with other values in these fields."""
-        return cast(AnyNode, dataclasses.replace(cast(Any, self), **fields))
-
-    def __repr__(self) -> str:
-        """The call that makes it: without the fields that are as they are where nothing is said, and without the names of the first ones."""
-        words = []
-        for field in dataclasses.fields(cast(Any, self)):
-            value = getattr(self, field.name)
-            if field.default is dataclasses.MISSING:
-                words.append(repr(value))
-            elif value != field.default or type(value) is not type(field.default):
-                words.append(f"{field.name}={value!r}")
-        return f"{type(self).__name__}({', '.join(words)})"
-
-
-# ---- parts
-
-
-@dataclass(frozen=True, repr=False)
-class Matcher(Node):
-    """A matcher: a label, an operator, `=`, `!=`, `=~` or `!~`, and a value, which is a pattern after `=~` and `!~`."""
-
-    name: str
-    op: MatchOp
-    value: str
-
-    def to_json(self) -> Dict[str, Any]:
-        return {"name": self.name, "type": self.op, "value": self.value}
-
-    @classmethod
-    def read(cls, members: Members) -> Matcher:
-        found = cls(members.text("name"), cast(Any, members.word("type", ("=", "!=", "=~", "!~"))), members.text("value"))
-        members.end()
-        return found
-
-
-@dataclass(frozen=True, repr=False)
-class ManyToOne(Node):
-    """`group_left`, with its labels."""
-
-    labels: Tuple[str, ...] = ()
-
-
-@dataclass(frozen=True, repr=False)
-class OneToMany(Node):
-    """`group_right`, with its labels."""
-
-    labels: Tuple[str, ...] = ()
-
-
-Cardinality = Union[Literal["one-to-one", "many-to-many"], ManyToOne, OneToMany]
-
-
-@dataclass(frozen=True, repr=False)
-class Matching(Node):
-    """How the sides of a binary expression match: by the labels after `on`, or by all but those after `ignoring`.
-
-    `card` says how many elements of one side match how many of the other: `one-to-one`, `many-to-many`, which only `and`, `or` and
-    `unless` have, ManyToOne or OneToMany. `fill_left` and `fill_right` are the texts of numbers, or None.
-    """
-
-    on: bool = False
-    labels: Tuple[str, ...] = ()
-    card: Cardinality = "one-to-one"
-    fill_left: Optional[str] = None
-    fill_right: Optional[str] = None
-
-    def to_json(self) -> Dict[str, Any]:
-        card: Any = self.card
-        if isinstance(card, ManyToOne):
-            card = {"many-to-one": list(card.labels)}
-        elif isinstance(card, OneToMany):
-            card = {"one-to-many": list(card.labels)}
-        fill = {"lhs": self.fill_left, "rhs": self.fill_right}
-        return {"card": card, "fillValues": fill, "include": [], "labels": list(self.labels), "on": self.on}
-
-    @classmethod
-    def read(cls, members: Members) -> Matching:
-        fill = members.below("fillValues")
-        left, right = fill.text_or_none("lhs"), fill.text_or_none("rhs")
-        fill.end()
-        if members.items("include"):
-            raise members.error("include", "expected an empty list")
-        found = cls(members.flag("on"), members.texts("labels"), _read_cardinality(members), left, right)
-        members.end()
-        return found
-
-
-def _read_cardinality(members: Members) -> Cardinality:
-    if not isinstance(members.value("card"), dict):
-        return cast(Cardinality, members.word("card", ("one-to-one", "many-to-many")))
-    card = members.below("card")
-    is_many_to_one = card.has("many-to-one")
-    labels = card.texts("many-to-one" if is_many_to_one else "one-to-many")
-    card.end()
-    return ManyToOne(labels) if is_many_to_one else OneToMany(labels)
-
-
-# ---- expressions
 
 
 class Expr(Node):
@@ -156,6 +55,29 @@ class Expr(Node):
             elif value is not None:
                 fields[name] = tuple(next(rest) for _ in value)
         return self.replace(**fields) if fields else self
+
+    def __eq__(self, other: object) -> bool:
+        """Whether it is the same expression, wherever both are from. (Without recursion: a query may have more levels than Python calls.)"""
+        if type(self) is not type(other):
+            return NotImplemented
+        left: List[Tuple[Expr, Expr]] = [(self, cast(Expr, other))]
+        while left:
+            one, two = left.pop()
+            if one is two:
+                continue
+            if type(one) is not type(two) or one._own_values() != two._own_values():
+                return False
+            left.extend(zip(one.children(), two.children()))
+        return True
+
+    def __hash__(self) -> int:
+        return hash(tuple((type(node), node._own_values()) for node in self.walk()))
+
+    def _own_values(self) -> Tuple[object, ...]:
+        """What its fields have; of those with expressions, how many."""
+        names = (field.name for field in dataclasses.fields(cast(Any, self)))
+        values = ((name, getattr(self, name)) for name in names)
+        return tuple(_count(value) if name in self.CHILDREN else value for name, value in values)
 
     @property
     def place(self) -> Optional[Tuple[int, int]]:
@@ -203,10 +125,16 @@ class Expr(Node):
         return cls(**children)
 
 
-@dataclass(frozen=True, repr=False)
+_EXPR = one(Expr, "an expression")
+_EXPR_OR_NONE = one(Expr, "an expression", or_none=True)
+
+
+@dataclass(frozen=True, repr=False, eq=False)
 class Aggregation(Expr):
     """An aggregation: `op` is `sum`, `topk` and so on. `grouping` has the labels after `by`, or after `without` where that is true.
     `param` is what operators such as `topk` have before the expression."""
+
+    CHECKS: ClassVar[Dict[str, Check]] = {"op": text, "expr": _EXPR, "grouping": texts, "without": flag, "param": _EXPR_OR_NONE}
 
     TYPE: ClassVar[str] = "aggregation"
     CHILDREN: ClassVar[Tuple[str, ...]] = ("param", "expr")
@@ -225,9 +153,11 @@ class Aggregation(Expr):
         return cls(members.text("op"), grouping=members.texts("grouping"), without=members.flag("without"), **children)
 
 
-@dataclass(frozen=True, repr=False)
+@dataclass(frozen=True, repr=False, eq=False)
 class Unary(Expr):
     """A minus before an expression."""
+
+    CHECKS: ClassVar[Dict[str, Check]] = {"expr": _EXPR}
 
     TYPE: ClassVar[str] = "unaryExpr"
     CHILDREN: ClassVar[Tuple[str, ...]] = ("expr",)
@@ -243,9 +173,17 @@ class Unary(Expr):
         return cls(**children)
 
 
-@dataclass(frozen=True, repr=False)
+@dataclass(frozen=True, repr=False, eq=False)
 class Binary(Expr):
     """A binary expression: `op` is `+`, `==`, `and` and so on, and `return_bool` says whether the word `bool` is there."""
+
+    CHECKS: ClassVar[Dict[str, Check]] = {
+        "lhs": _EXPR,
+        "op": text,
+        "rhs": _EXPR,
+        "return_bool": flag,
+        "matching": one(Matching, "Matching", or_none=True),
+    }
 
     TYPE: ClassVar[str] = "binaryExpr"
     CHILDREN: ClassVar[Tuple[str, ...]] = ("lhs", "rhs")
@@ -265,9 +203,11 @@ class Binary(Expr):
         return cls(op=members.text("op"), return_bool=members.flag("bool"), matching=matching, **children)
 
 
-@dataclass(frozen=True, repr=False)
+@dataclass(frozen=True, repr=False, eq=False)
 class Paren(Expr):
     """An expression in parentheses."""
+
+    CHECKS: ClassVar[Dict[str, Check]] = {"expr": _EXPR}
 
     TYPE: ClassVar[str] = "parenExpr"
     CHILDREN: ClassVar[Tuple[str, ...]] = ("expr",)
@@ -275,10 +215,12 @@ class Paren(Expr):
     expr: Expr
 
 
-@dataclass(frozen=True, repr=False)
+@dataclass(frozen=True, repr=False, eq=False)
 class Subquery(Expr):
     """A subquery: its range, its step and its offset are milliseconds. `at` is the time after `@`: milliseconds since the epoch, `start`
     or `end`."""
+
+    CHECKS: ClassVar[Dict[str, Check]] = {"expr": _EXPR, "range": whole, "step": whole_or_none, "offset": whole, "at": time_after_at}
 
     TYPE: ClassVar[str] = "subquery"
     CHILDREN: ClassVar[Tuple[str, ...]] = ("expr",)
@@ -298,9 +240,11 @@ class Subquery(Expr):
         return cls(range=members.whole("range"), step=step, offset=members.whole("offset"), at=_read_at(members), **children)
 
 
-@dataclass(frozen=True, repr=False)
+@dataclass(frozen=True, repr=False, eq=False)
 class Number(Expr):
     """A number. It has at most 38 digits, and they are exact, so its value is a text, as it prints: `0.5`, `-Inf`, `NaN`."""
+
+    CHECKS: ClassVar[Dict[str, Check]] = {"value": text}
 
     TYPE: ClassVar[str] = "numberLiteral"
 
@@ -308,14 +252,19 @@ class Number(Expr):
 
     @classmethod
     def of(cls, value: Union[int, float, Decimal]) -> Number:
-        """The number with this value: of a float, that which its `repr` shows."""
+        """The number with this value: of a float, that which its `repr` shows. ValueError where it has hundreds of digits before or after
+        the point: no float has as many."""
+        if isinstance(value, int) and value.bit_length() > 8 * _MOST_DIGITS:
+            raise ValueError(_TOO_MANY_DIGITS)
         number = Decimal(repr(value)) if isinstance(value, float) else Decimal(value)
         if not number.is_finite():
             return cls("NaN" if number.is_nan() else "Inf" if number > 0 else "-Inf")
-        text = format(number, "f")
-        if "." in text:
-            text = text.rstrip("0").rstrip(".")
-        return cls("0" if text == "-0" else text)
+        if abs(number.adjusted()) > _MOST_DIGITS or len(number.as_tuple().digits) > 2 * _MOST_DIGITS:
+            raise ValueError(_TOO_MANY_DIGITS)
+        digits = format(number, "f")
+        if "." in digits:
+            digits = digits.rstrip("0").rstrip(".")
+        return cls("0" if digits == "-0" else digits)
 
     def decimal(self) -> Decimal:
         """Its value."""
@@ -329,9 +278,11 @@ class Number(Expr):
         return cls(members.text("val"))
 
 
-@dataclass(frozen=True, repr=False)
+@dataclass(frozen=True, repr=False, eq=False)
 class String(Expr):
     """A string: its text without the quotes."""
+
+    CHECKS: ClassVar[Dict[str, Check]] = {"value": text}
 
     TYPE: ClassVar[str] = "stringLiteral"
 
@@ -345,10 +296,18 @@ class String(Expr):
         return cls(members.text("val"))
 
 
-@dataclass(frozen=True, repr=False)
+@dataclass(frozen=True, repr=False, eq=False)
 class Selector(Expr):
     """A selector: its name before the braces or None, and its matchers. `or_matchers` are the groups between `or`, and `matchers` those
     that are in none. The offset is milliseconds, and `at` the time after `@`: milliseconds since the epoch, `start` or `end`."""
+
+    CHECKS: ClassVar[Dict[str, Check]] = {
+        "name": text_or_none,
+        "matchers": MATCHERS,
+        "or_matchers": GROUPS,
+        "offset": whole,
+        "at": time_after_at,
+    }
 
     TYPE: ClassVar[str] = "vectorSelector"
 
@@ -370,9 +329,11 @@ class Selector(Expr):
         return cls(**_read_selected(members))
 
 
-@dataclass(frozen=True, repr=False)
+@dataclass(frozen=True, repr=False, eq=False)
 class RangeSelector(Expr):
     """A selector with a range of milliseconds, as in `foo[5m]`. `mode` is `smoothed`, `anchored` or None; all else is as in Selector."""
+
+    CHECKS: ClassVar[Dict[str, Check]] = {**Selector.CHECKS, "range": whole, "mode": text_or_none}
 
     TYPE: ClassVar[str] = "matrixSelector"
 
@@ -398,9 +359,11 @@ class RangeSelector(Expr):
         return cls(range=members.whole("range"), mode=mode, **_read_selected(members))
 
 
-@dataclass(frozen=True, repr=False)
+@dataclass(frozen=True, repr=False, eq=False)
 class Call(Expr):
     """A call of the function of this name."""
+
+    CHECKS: ClassVar[Dict[str, Check]] = {"name": text, "args": tuple_of(_EXPR, "expressions")}
 
     TYPE: ClassVar[str] = "call"
     CHILDREN: ClassVar[Tuple[str, ...]] = ("args",)
@@ -431,6 +394,11 @@ class Call(Expr):
 # ---- what selectors and subqueries share
 
 
+def _count(value: object) -> int:
+    """How many expressions a field has."""
+    return len(value) if isinstance(value, tuple) else int(value is not None)
+
+
 def _with_matcher(selector: Union[Selector, RangeSelector], matcher: Matcher) -> Expr:
     if not selector.or_matchers:
         return selector.replace(matchers=(*selector.matchers, matcher))
@@ -448,10 +416,10 @@ def _read_selected(members: Members) -> Dict[str, Any]:
     groups: List[Tuple[Matcher, ...]] = []
     if members.has("or_matchers"):
         for number, group in enumerate(members.items("or_matchers")):
-            path = f"{members.path}.or_matchers[{number}]"
+            step = f"or_matchers[{number}]"
             if not isinstance(group, list):
-                raise FormError(path, "expected a list")
-            groups.append(tuple(Matcher.read(Members(it, f"{path}[{place}]")) for place, it in enumerate(group)))
+                raise members.error(step, "expected a list")
+            groups.append(tuple(Matcher.read(Members(it, members, f"{step}[{place}]")) for place, it in enumerate(group)))
         if not groups:
             raise members.error("or_matchers", "expected a group")
     matchers = tuple(map(Matcher.read, members.objects("matchers")))

@@ -3,19 +3,21 @@
 from __future__ import annotations
 
 import json
-import re
-from typing import Any, Dict, Iterator, List, Optional, Tuple, cast
+from typing import Any, Dict, List, Optional, Tuple, cast
 
 import promql
 
 from ._answers import Answer, Mode
 from ._calls import calls
 from ._members import FormError, Members
+from ._node_faults import first_without_text, node_at, path_of, places_in
 from ._nodes import KINDS, Aggregation, Call, Expr
 from .forms import Form
 
 
 _TOO_DEEP = "nested too deeply"
+# The most nodes above one another that are read.
+_MOST_HEIGHT = 100_000
 
 
 class NodeError(promql.Error):
@@ -41,10 +43,11 @@ class NodeError(promql.Error):
 
 def form_of(tree: Expr) -> Form:
     forms: List[Dict[str, Any]] = []
-    places = list(_places(tree))
-    for path, expr in reversed(places):
+    places = places_in(tree)
+    for place in reversed(places):
+        expr = place.expr
         if isinstance(expr, Call) and expr.function is None:
-            raise NodeError(f"there is no function '{expr.name}'", f"{path}.func.name", expr)
+            raise NodeError(f"there is no function '{expr.name}'", f"{path_of(places, place)}.func.name", expr)
         form: Dict[str, Any] = {"type": expr.TYPE, **expr.members()}
         # (those of the children were made before, the last one first)
         for name in expr.CHILDREN:
@@ -57,28 +60,14 @@ def form_of(tree: Expr) -> Form:
     return cast(Form, forms.pop())
 
 
-def _places(tree: Expr) -> Iterator[Tuple[str, Expr]]:
-    """The expressions of a tree with their paths, in the order of a walk."""
-    left: List[Tuple[str, Expr]] = [("$", tree)]
-    while left:
-        path, expr = left.pop()
-        yield path, expr
-        below: List[Tuple[str, Expr]] = []
-        for name in expr.CHILDREN:
-            value = getattr(expr, name)
-            if isinstance(value, Expr):
-                below.append((f"{path}.{name}", value))
-            elif value is not None:
-                below.extend((f"{path}.{name}[{number}]", it) for number, it in enumerate(value))
-        left.extend(reversed(below))
-
-
 def tree_of(form: object) -> Expr:
     """The tree of a JSON form."""
-    left: List[Members] = [Members(form, "$")]
+    left: List[Members] = [Members(form)]
     found: List[Tuple[Members, List[Tuple[str, Optional[int]]]]] = []
     while left:
         members = left.pop()
+        if members.depth == _MOST_HEIGHT:
+            raise FormError(members.path, f"expected a tree of at most {_MOST_HEIGHT:,} nodes above one another")
         below: List[Members] = []
         counts: List[Tuple[str, Optional[int]]] = []
         kind = KINDS[members.word("type", tuple(KINDS))]
@@ -122,9 +111,9 @@ def _printed(tree: Expr, mode: Mode, level: int, width: int) -> str:
         if not colon:
             # (the form is JSON, but deeper than the library reads)
             raise NodeError(_TOO_DEEP, "$", tree) from error
-        raise NodeError(message, path, _node_at(tree, path)) from error
+        raise NodeError(message, path, node_at(tree, path)) from error
     if isinstance(error, promql.UnfaithfulError):
-        path, node = _first_without_text(tree)
+        path, node = first_without_text(tree, lambda expr: isinstance(_answer(expr, Mode.LINE, 0, 0), str))
         raise NodeError(str(error), path, node) from error
     if isinstance(error, promql.TooLargeTreeError):
         raise NodeError(str(error), "$", tree) from error
@@ -138,24 +127,3 @@ def _answer(tree: Expr, mode: Mode, level: int, width: int) -> Answer:
         # (the library reads fewer levels than Python writes)
         raise NodeError(_TOO_DEEP, "$", tree) from error
     return calls.print_tree(form, mode, level, width, 1)
-
-
-def _first_without_text(tree: Expr) -> Tuple[str, Expr]:
-    """The lowest expression that has no text, though all below it have one: that is where the fault is."""
-    for path, expr in reversed(list(_places(tree))):
-        if not isinstance(_answer(expr, Mode.LINE, 0, 0), str):
-            return path, expr
-    return "$", tree
-
-
-def _node_at(tree: Expr, path: str) -> Expr:
-    """The expression at a path, or the last one on the way there."""
-    expr = tree
-    for name, number in re.findall(r"\.(\w+)(?:\[(\d+)\])?", path):
-        value = getattr(expr, name, None) if name in expr.CHILDREN else None
-        if isinstance(value, tuple):
-            value = value[int(number)] if number and int(number) < len(value) else None
-        if not isinstance(value, Expr):
-            break
-        expr = value
-    return expr

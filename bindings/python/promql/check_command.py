@@ -7,8 +7,6 @@ from functools import partial
 from operator import itemgetter
 from typing import Any, List, Tuple
 
-import promql
-
 from .documents import Document, Status, read_document, skipped_notes
 from .files import Fault, FileError, counted
 from .jobs import Report, add_arguments, as_bytes, skipped_file, work_on
@@ -47,7 +45,7 @@ def _run(arguments: argparse.Namespace) -> int:
 
 def _check_file(arguments: argparse.Namespace, target: Target) -> Report:
     try:
-        document = read_document(target, arguments.dashboard, dict(arguments.variable))
+        document = read_document(target, arguments.dashboard, dict(arguments.variable), arguments.max_file_patterns)
         if not document:
             return skipped_file(target, arguments.verbose)
         others, notes = ([], []) if arguments.queries else document.checks()
@@ -67,11 +65,4 @@ def _check_file(arguments: argparse.Namespace, target: Target) -> Report:
 
 
 def _faults(document: Document) -> List[Fault]:
-    faults = list(document.faults)
-    for query in document.queries:
-        try:
-            if not query.skipped:
-                promql.check(query.text)
-        except ValueError as error:
-            faults.append(query.rejected(error))
-    return faults
+    return [*document.faults, *document.checker.faults(document.queries)]

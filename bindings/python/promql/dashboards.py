@@ -7,6 +7,7 @@ import re
 from dataclasses import replace
 from typing import Any, Dict, Iterator, List, Mapping, NamedTuple, Optional, Tuple
 
+from .checked_queries import QueryChecker
 from .files import BLANKS, Fault, FileError, Source, counted
 from .grafana_variables import VARIABLE, read_variables
 from .queries import Edit, PlacedText, Query, SameQuery
@@ -41,8 +42,11 @@ class JsonString(NamedTuple):
 class Dashboard:
     """A dashboard. The values of variables are put into the queries, which are then to be checked and no more."""
 
-    def __init__(self, source: Source, variables: Optional[Mapping[str, str]] = None) -> None:
+    def __init__(
+        self, source: Source, variables: Optional[Mapping[str, str]] = None, checker: Optional[QueryChecker] = None
+    ) -> None:
         self.source = source
+        self.checker = checker or QueryChecker()
         self.faults: List[Fault] = []
         self.notes: List[Fault] = []
         self._document = _load(source)
@@ -70,7 +74,7 @@ class Dashboard:
             if skipped or not VARIABLE.search(text.text):
                 yield Query(text.text, [*text.offsets, string.end - 1], string, skipped=skipped)
             else:
-                read = read_variables(text)
+                read = read_variables(text, self.checker)
                 yield Query(
                     read.text.text, [*read.text.offsets, string.end - 1], string, read.unknown, variables=read.variables
                 )

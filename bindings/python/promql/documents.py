@@ -6,6 +6,7 @@ import re
 from enum import IntEnum
 from typing import List, Mapping, Optional, Protocol, Tuple
 
+from .checked_queries import MOST_FILE_PATTERNS, QueryChecker
 from .dashboards import Dashboard
 from .files import Fault, FileError, Source, nested_too_deeply, read_source
 from .queries import Query, SameQuery
@@ -34,6 +35,7 @@ class Document(Protocol):
     notes: List[Fault]
     # Whether it is surely what it was taken for.
     is_known: bool
+    checker: QueryChecker
 
     def summary(self) -> str:
         """How much there is in the file."""
@@ -45,8 +47,13 @@ class Document(Protocol):
         """Whether this text of a file has what this one has, but for queries which are the same by `same_query`."""
 
 
-def read_document(target: Target, is_dashboard: bool, variables: Optional[Mapping[str, str]] = None) -> Optional[Document]:
-    """Reads a file, which is a dashboard where its name ends with .json, too.
+def read_document(
+    target: Target,
+    is_dashboard: bool,
+    variables: Optional[Mapping[str, str]] = None,
+    most_patterns: int = MOST_FILE_PATTERNS,
+) -> Optional[Document]:
+    """Reads a file, which is a dashboard where its name ends with .json, too, and whose patterns may measure so much.
 
     There is nothing to read in a file that was found in a folder, and is something else. One that is not YAML is that where no line
     of it begins with `groups:`, as in rules.
@@ -54,7 +61,7 @@ def read_document(target: Target, is_dashboard: bool, variables: Optional[Mappin
     if target.fault:
         raise FileError(target.fault)
     try:
-        document = _read(target.name, is_dashboard or target.name.endswith(".json"), variables)
+        document = _read(target.name, is_dashboard or target.name.endswith(".json"), variables, QueryChecker(most_patterns))
     except NotReadError as error:
         if target.is_found and not _GROUPS.search(error.text):
             return None
@@ -67,12 +74,12 @@ def skipped_notes(document: Document, is_verbose: bool) -> List[Fault]:
     return [note._replace(message=f"skipped: {note.message}") for note in document.notes if is_verbose]
 
 
-def _read(name: str, is_dashboard: bool, variables: Optional[Mapping[str, str]]) -> Document:
+def _read(name: str, is_dashboard: bool, variables: Optional[Mapping[str, str]], checker: QueryChecker) -> Document:
     source = read_source(name)
     try:
         if is_dashboard:
-            return Dashboard(source, variables)
-        return RuleFile(source)
+            return Dashboard(source, variables, checker)
+        return RuleFile(source, checker)
     except RecursionError as error:
         raise NotReadError(source, nested_too_deeply(name)) from error
     except FileError as error:

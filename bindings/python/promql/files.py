@@ -5,15 +5,17 @@ from __future__ import annotations
 import errno
 import os
 import re
+import signal
 import stat
 import sys
 import tempfile
-from bisect import bisect_right
+from contextlib import contextmanager
 from dataclasses import dataclass
 from functools import cached_property
 from pathlib import Path
-from typing import List, NamedTuple, Tuple
+from typing import Iterator, NamedTuple
 
+from .line_index import LineIndex
 from .visible import visible
 
 STDIN = "-"
@@ -22,7 +24,6 @@ BLANKS = " \t\r\n"
 # A longer line is shown in part.
 _LONGEST_LINE = 160
 _BYTE_ORDER_MARK = "\ufeff"
-_BREAK = re.compile(BREAK)
 
 
 class FileError(Exception):
@@ -55,29 +56,18 @@ class Source:
         return (self.mark + self.text).encode()
 
     @cached_property
-    def _lines(self) -> List[Tuple[int, int]]:
-        """Where each line begins and ends."""
-        breaks = [found.span() for found in _BREAK.finditer(self.text)]
-        begins, ends = [0, *(end for _, end in breaks)], [*(begin for begin, _ in breaks), len(self.text)]
-        return list(zip(begins, ends))
-
-    @cached_property
-    def _begins(self) -> List[int]:
-        return [begin for begin, _ in self._lines]
-
-    def line_around(self, offset: int) -> Tuple[int, int, int]:
-        """The number of a character's line, and where this line begins and ends."""
-        number = bisect_right(self._begins, offset)
-        return (number, *self._lines[number - 1])
+    def lines(self) -> LineIndex:
+        return LineIndex(self.text)
 
     def located(self, fault: Fault) -> str:
         """`FILE:LINE:COLUMN: message`; lines and columns count from 1, and a column is a character."""
-        number, begin, _ = self.line_around(fault.start)
-        return f"{visible(self.name)}:{number}:{fault.start - begin + 1}: {visible(fault.message)}"
+        line, column = self.lines.place(fault.start)
+        return f"{visible(self.name)}:{line}:{column}: {visible(fault.message)}"
 
     def shown(self, fault: Fault) -> str:
         """The same, the line where the fault begins, and a mark below the part that it is about."""
-        _, begin, end = self.line_around(fault.start)
+        begin = self.lines.begin(fault.start)
+        end = self.lines.end(fault.start, max(begin, fault.start - _LONGEST_LINE // 2) + _LONGEST_LINE + 1)
         if end - begin > _LONGEST_LINE:
             begin = max(begin, fault.start - _LONGEST_LINE // 2)
             end = min(end, begin + _LONGEST_LINE)
@@ -99,7 +89,7 @@ def counted(number: int, one: str, many: str) -> str:
 def read_source(name: str) -> Source:
     """Reads a file, or standard input."""
     try:
-        data = sys.stdin.buffer.read() if name == STDIN else Path(name).read_bytes()
+        data = sys.stdin.buffer.read() if name == STDIN else _read_bytes(name)
         text = data.decode()
     except OSError as error:
         raise FileError(f"{name}: {error.strerror}") from error
@@ -109,11 +99,38 @@ def read_source(name: str) -> Source:
     return Source("<stdin>" if name == STDIN else name, text[len(mark) :], mark)
 
 
+def _read_bytes(name: str) -> bytes:
+    """What a file has. A named pipe that nobody writes into has nothing, and is not waited for."""
+    descriptor = os.open(name, os.O_RDONLY | os.O_NONBLOCK | os.O_CLOEXEC)
+    with open(descriptor, "rb") as file:
+        os.set_blocking(descriptor, True)
+        return file.read()
+
+
+# Those that tell of an error of the process itself cannot wait.
+_AT_ONCE = {signal.SIGSEGV, signal.SIGBUS, signal.SIGFPE, signal.SIGILL, signal.SIGABRT}
+
+
+@contextmanager
+def _signals_wait() -> Iterator[None]:
+    """No signal that can wait ends the process meanwhile."""
+    before = signal.pthread_sigmask(signal.SIG_BLOCK, signal.valid_signals() - _AT_ONCE)
+    try:
+        yield
+    finally:
+        signal.pthread_sigmask(signal.SIG_SETMASK, before)
+
+
 def write_file(source: Source, data: bytes) -> None:
-    """Replaces what a file has, whole: until then it is as it was, and after an error too.
+    """Replaces what a file has, whole: until then it is as it was, and after an error too, and after a signal that can be caught.
 
     A file that has other bytes than those that were read is left as it is, and so is one that a new file cannot stand for.
     """
+    with _signals_wait():
+        _replace_file(source, data)
+
+
+def _replace_file(source: Source, data: bytes) -> None:
     path = os.path.realpath(source.name)
     status = os.stat(path)
     _look_at_kind(source.name, status)

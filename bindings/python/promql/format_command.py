@@ -12,9 +12,11 @@ from typing import Any, Callable, Dict, Iterator, List, Optional, Tuple
 
 import promql
 
+from .checked_queries import QueryChecker, limited_to
 from .documents import Document, Status, read_document, skipped_notes
-from .files import BLANKS, STDIN, FileError, write_file
+from .files import BLANKS, STDIN, Fault, FileError, write_file
 from .jobs import Report, add_arguments, as_bytes, skipped_file, work_on
+from .options import whole_number
 from .queries import Query, SameQuery, edited
 from .targets import Target, targets_of
 from .visible import visible
@@ -22,6 +24,7 @@ from .visible import visible
 _COMMENT = "it has a comment, which would be lost"
 _NEEDS_LINES = "it has a comment, and has to stay on one line here"
 _ANY_VALUES = "its variables of Grafana may have any values"
+_TOO_LONG = "laid out, it would be longer than a query may be"
 _NOT_BACK = "its variables of Grafana would not come back"
 _LINE = re.compile(r"[^\n]*\n|[^\n]+")
 # How a query is laid out: as `promql pretty` does, or for people, as `promql_format` does, with its comments.
@@ -42,9 +45,7 @@ def add_parser(subparsers: Any) -> None:
 
 
 def _width(text: str) -> int:
-    if not text.isdecimal():
-        raise argparse.ArgumentTypeError(f"not a number of columns: {text!r}")
-    return min(int(text), sys.maxsize)
+    return min(whole_number(text), sys.maxsize)
 
 
 @dataclass(frozen=True)
@@ -68,12 +69,24 @@ class Printer:
             return None
 
     def _laid_out(self, query: str, width: int) -> str:
-        return promql.format_query(query, width=width) if self.style == PEOPLE else promql.format(query, width=width)
+        """The query in this style; for people, whose chains of operators are flat, where it would be longer than a query may be."""
+        if self.style == PRETTY:
+            try:
+                text = promql.format(query, width=width)
+            except promql.LongOutputError:
+                text = ""
+            if text and is_short(text):
+                return text
+        return _for_people(query, width)
 
     def means(self, new: str, query: Query) -> bool:
         """Whether a text is what the query is to be."""
         read = query.variables.stand_in(new) if query.variables else new
-        return read is not None and promql.canonical(read) == promql.canonical(self.meant(query.laid_out))
+        if read is None:
+            return False
+        # (what stands for a variable may be longer than the variable)
+        with limited_to(max_len=promql.limits()["max_output"]):
+            return promql.canonical(read) == promql.canonical(self.meant(query.laid_out))
 
     def why_left(self, query: Query) -> str:
         """Why a query is not formatted, or nothing."""
@@ -82,14 +95,26 @@ class Printer:
 
     def _why_kept(self, query: Query) -> str:
         """Why an accepted query is not formatted, or nothing."""
-        promql.check(query.text)
+        if QueryChecker.error(query.text):
+            # (that one may be kept, and so is not raised)
+            promql.check(query.text)
         if query.kept or not has_comment(query.text):
             return query.kept
         if self.enforces or self.style == PRETTY:
             return _COMMENT
         # (a comment ends with its line)
-        has_lines = query.spelling.room(self.width) < sys.maxsize or "\n" not in promql.format_query(query.laid_out, width=sys.maxsize)
+        has_lines = query.spelling.room(self.width) < sys.maxsize or "\n" not in _for_people(query.laid_out, sys.maxsize)
         return "" if has_lines else _NEEDS_LINES
+
+
+def _for_people(query: str, width: int) -> str:
+    """The query, laid out for people. Where it has to stay on one line the width is the greatest that there is."""
+    return promql.format_query(query, width=min(width, promql.MAX_LINE))
+
+
+def is_short(query: str) -> bool:
+    """Whether a query is not too long to be read."""
+    return len(query.encode()) <= promql.limits()["max_len"]
 
 
 def _enforcer(matcher: Optional[str]) -> Callable[[str], str]:
@@ -115,19 +140,18 @@ def _run(arguments: argparse.Namespace) -> int:
 
 def _format_file(arguments: argparse.Namespace, printer: Printer, target: Target) -> Report:
     messages: List[str] = []
-    name = target.name
     try:
-        document = read_document(target, arguments.dashboard)
+        document = read_document(target, arguments.dashboard, most_patterns=arguments.max_file_patterns)
         if not document:
             return skipped_file(target, arguments.verbose)
         messages += map(document.source.located, skipped_notes(document, arguments.verbose))
         text = _formatted(document, printer, messages)
-        status, out = _put_out(name, document, text, arguments)
+        status, out = _put_out(target.name, document, text, arguments)
         return Report(status, as_bytes(out), messages)
     except FileError as error:
         messages.append(str(error))
     except OSError as error:
-        messages.append(f"{name}: {error.strerror}")
+        messages.append(f"{target.name}: {error.strerror or error}")
     return Report(Status.FAILED, b"", messages)
 
 
@@ -153,29 +177,45 @@ def _formatted(document: Document, printer: Printer, messages: List[str]) -> str
 def _reads_as(document: Document, text: str, same_query: SameQuery) -> bool:
     try:
         return document.same(text, same_query)
-    except FileError:
+    except (FileError, ValueError, RecursionError):
         return False
 
 
 def _changes(document: Document, printer: Printer, messages: List[str]) -> List[Tuple[Query, str]]:
     """The queries that are to be written in another way, and how."""
     source, faults, changes = document.source, list(document.faults), []
+    over: List[Query] = []
     for query in document.queries:
+        if not query.skipped and not document.checker.admits(query.text):
+            over.append(query)
+            continue
         try:
             left = printer.why_left(query)
             text = None if left else printer.text(query)
-        except ValueError as error:
-            faults.append(query.rejected(error))
+        except promql.LongOutputError:
+            text, left = None, _TOO_LONG
+        except (ValueError, RecursionError) as error:
+            faults.append(_failed(document, query, error))
             continue
+        if text is not None and not is_short(text):
+            text, left = None, _TOO_LONG
         if text is None and printer.enforces:
             faults.append(query.whole(f"not enforced: {left}"))
         elif text is None:
             messages.append(source.located(query.whole(f"warning: left as it is: {left or _NOT_BACK}")))
         elif text != query.original.rstrip("\n"):
             changes.append((query, text))
+    faults += document.checker.left(over)
     if faults:
         raise FileError("\n".join(source.shown(fault) for fault in sorted(faults)))
     return changes
+
+
+def _failed(document: Document, query: Query, error: Exception) -> Fault:
+    """The fault of a query for which this was raised."""
+    if isinstance(error, ValueError):
+        return document.checker.rejected(query, error)
+    return query.whole("nested too deeply")
 
 
 def has_comment(query: str) -> bool:

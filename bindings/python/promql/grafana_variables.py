@@ -13,6 +13,7 @@ from typing import Dict, Iterator, List, Match, NamedTuple, Optional, Sequence, 
 
 import promql
 
+from .checked_queries import QueryChecker
 from .queries import PlacedText
 
 _NAMES = r"[A-Za-z_]\w*"
@@ -145,22 +146,34 @@ class Reading(NamedTuple):
     unknown: str
 
 
-def read_variables(text: PlacedText) -> Reading:
+def read_variables(text: PlacedText, checker: QueryChecker) -> Reading:
     """The first reading of a query that is accepted, or the one that is accepted for the longest part."""
     best: Tuple[int, Optional[Reading]] = (-1, None)
     for variables in _trials(text.text):
+        if best[1] and not checker.tries(text.text):
+            break
         made, spans = variables.checked(text)
-        try:
-            promql.check(made.text)
-        except promql.QueryError as error:
-            unknown = _unknown(text.text) if any(_is_doubtful(error, span) for span in spans) else ""
-            if error.start > best[0]:
-                best = error.start, Reading(variables, made, unknown)
-        except ValueError:
-            return Reading(variables, made, "")
-        else:
-            return Reading(variables, made, "")
+        reading = Reading(variables, made, "")
+        error = _error(made.text, checker)
+        if not isinstance(error, promql.QueryError):
+            return reading
+        if error.start > best[0]:
+            is_doubtful = any(_is_doubtful(error, span) for span in spans)
+            best = error.start, reading._replace(unknown=_unknown(text.text) if is_doubtful else "")
     return best[1] or Reading(None, text, _unknown(text.text))
+
+
+def _error(query: str, checker: QueryChecker) -> Optional[ValueError]:
+    """Why a query is rejected; or nothing, also where the patterns of its file are too large together, as is told later.
+
+    Most are rejected for their syntax, or for types. So a query with patterns is looked at before without them.
+    """
+    bare = query.replace("=~", "= ").replace("!~", "!=")
+    if bare != query:
+        error = checker.error(bare)
+        if isinstance(error, promql.QueryError) and not error.reason.startswith(_OF_VALUES):
+            return error
+    return checker.error(query) if checker.admits(query) else None
 
 
 def _unknown(query: str) -> str:

@@ -6,12 +6,15 @@ import argparse
 import multiprocessing
 import os
 import sys
+from functools import partial
 from multiprocessing.connection import Connection
 from typing import Any, Callable, Iterator, List, NamedTuple, Sequence
 
 from . import colors
+from .checked_queries import MOST_FILE_PATTERNS
 from .documents import Status
-from .files import STDIN
+from .files import STDIN, FileError, nested_too_deeply
+from .options import add_target, whole_number
 from .targets import Target
 from .visible import visible
 
@@ -54,13 +57,35 @@ def add_arguments(parser: Any, without_file: str = "") -> None:
     parser.add_argument("--dashboard", action="store_true", help="all files are dashboards")
     parser.add_argument("--jobs", type=_jobs, default=1, metavar="N", help="so many processes (1)")
     colors.add_argument(parser)
+    add_target(parser)
+    parser.add_argument(
+        "--max-file-patterns",
+        type=whole_number,
+        default=MOST_FILE_PATTERNS,
+        metavar="N",
+        help=f"the most that the patterns of a file may measure together ({MOST_FILE_PATTERNS})",
+    )
     parser.add_argument("-v", "--verbose", action="store_true", help="name what is skipped in files and folders")
 
 
 def _jobs(text: str) -> int:
-    if not text.isdecimal() or not 1 <= int(text) <= _MOST_JOBS:
-        raise argparse.ArgumentTypeError(f"not a number from 1 to {_MOST_JOBS}: {text!r}")
-    return int(text)
+    return whole_number(text, 1, _MOST_JOBS)
+
+
+def _guarded(work: Work, target: Target) -> Report:
+    """The report on a file; where the work fails in a way that it does not tell itself, that is the report, and the others go on."""
+    try:
+        return work(target)
+    except FileError as error:
+        return Report(Status.FAILED, b"", [str(error)])
+    except OSError as error:
+        return Report(Status.FAILED, b"", [f"{target.name}: {error.strerror or error}"])
+    except RecursionError:
+        return Report(Status.FAILED, b"", [str(nested_too_deeply(target.name))])
+    except MemoryError:
+        return Report(Status.FAILED, b"", [f"{target.name}: out of memory"])
+    except Exception as error:  # (a fault of this package, say: no other file is to lack its report for that)
+        return Report(Status.FAILED, b"", [f"{target.name}: {type(error).__name__}: {error}"])
 
 
 def work_on(targets: List[Target], work: Work, jobs: int, goes_on: bool = False, color: str = "never") -> Status:
@@ -85,7 +110,8 @@ def reports_of(targets: List[Target], work: Work, jobs: int) -> Iterator[Report]
     names = [target.name for target in targets]
     # (standard input is that of one process, and a file that is there twice is written once after the other)
     alone = jobs == 1 or STDIN in names or len({os.path.realpath(name) for name in names}) < len(names)
-    return map(work, targets) if alone else _in_processes(targets, work, jobs)
+    guarded = partial(_guarded, work)
+    return map(guarded, targets) if alone else _in_processes(targets, guarded, jobs)
 
 
 def _in_processes(targets: List[Target], work: Work, jobs: int) -> Iterator[Report]:

@@ -46,7 +46,7 @@ def _run(arguments: argparse.Namespace) -> int:
     if arguments.fix and arguments.output != "text" and (arguments.query or STDIN in (arguments.files or [STDIN])):
         print("--fix prints queries and standard input with their fixes, and no other output", file=sys.stderr)
         return Status.FAILED
-    targets = [Target(f"<query {number}>") for number in range(1, len(arguments.query) + 1)]
+    targets = [Target(f"<query {number}>", query=query) for number, query in enumerate(arguments.query, 1)]
     targets += targets_of(arguments.files, arguments.dashboard)
     targets = targets or [Target(STDIN)]
     work = partial(_lint_file, arguments, Selection(*(tuple(sum(it, ())) for it in (arguments.select, arguments.ignore))))
@@ -71,13 +71,12 @@ def _print_rules() -> int:
 
 
 def _read(arguments: argparse.Namespace, target: Target) -> Any:
-    if target.name.startswith("<query "):
-        number = int(target.name[len("<query ") : -1])
-        return GivenQuery(Source(target.name, arguments.query[number - 1], ""))
+    if target.query is not None:
+        return GivenQuery(Source(target.name, target.query, ""))
     if target.name == STDIN and not arguments.files:
         source = read_source(STDIN)
         return GivenQuery(source)
-    return read_document(target, arguments.dashboard)
+    return read_document(target, arguments.dashboard, most_patterns=arguments.max_file_patterns)
 
 
 def _lint_file(arguments: argparse.Namespace, selection: Selection, target: Target) -> Report:
@@ -90,8 +89,6 @@ def _lint_file(arguments: argparse.Namespace, selection: Selection, target: Targ
         return _report(arguments, document, selection, [])
     except FileError as error:
         return Report(Status.FAILED, b"", [str(error)])
-    except OSError as error:
-        return Report(Status.FAILED, b"", [f"{target.name}: {error.strerror}"])
 
 
 def _fix_file(arguments: argparse.Namespace, selection: Selection, target: Target, document: Document) -> Report:
@@ -109,7 +106,7 @@ def _fix_file(arguments: argparse.Namespace, selection: Selection, target: Targe
         return Report(Status.FINE, as_bytes(source.mark + text), [])
     if count:
         write_file(source, (source.mark + text).encode())
-        document = read_document(target, arguments.dashboard) or document
+        document = _read(arguments, target) or document
     return _report(arguments, document, selection, [counted(count, "query fixed", "queries fixed")] if count else [])
 
 

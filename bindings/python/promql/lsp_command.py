@@ -8,6 +8,7 @@ import sys
 from typing import TYPE_CHECKING, Any, Optional
 
 from .format_command import PRETTY, STYLES
+from .options import add_target
 
 if TYPE_CHECKING:
     from .lsp.prometheus import Prometheus
@@ -22,6 +23,7 @@ def add_parser(subparsers: Any) -> None:
         help="complete the names of metrics and labels of a Prometheus on this machine, too",
     )
     parser.add_argument("--style", choices=STYLES, default=PRETTY, help="how queries of rule files are laid out (pretty)")
+    add_target(parser)
     parser.add_argument("--no-lint", action="store_true", help="show no findings of the linter")
     parser.add_argument("--stdio", action="store_true", help="the only way, which some editors ask for")
     parser.set_defaults(run=_run)

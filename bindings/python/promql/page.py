@@ -21,6 +21,7 @@ from typing import Any, Dict, List, Tuple
 
 from . import QueryError, canonical, drawing, format_query
 from ._calls import calls
+from .options import add_target
 from .visible import visible
 
 ADDRESS = "127.0.0.1"
@@ -230,6 +231,7 @@ def serve(port: int = DEFAULT_PORT) -> int:
 def add_parser(subparsers: argparse._SubParsersAction[argparse.ArgumentParser]) -> None:
     text = "serve a page to try queries in, on this machine alone"
     parser = subparsers.add_parser("serve", help=text, description=text)
+    add_target(parser)
     parser.add_argument("--port", type=_port, default=DEFAULT_PORT, help="the port (%(default)s); 0 for a free one")
     parser.set_defaults(run=lambda options: serve(options.port))
 

@@ -102,11 +102,11 @@ class Query(NamedTuple):
     def whole(self, message: str) -> Fault:
         return self.fault(0, len(self.text), message)
 
-    def rejected(self, error: ValueError) -> Fault:
-        """The fault of a query for which a function of the package raised this."""
+    def rejected(self, error: ValueError, is_explained: bool = True) -> Fault:
+        """The fault of a query for which a function of the package raised this, with what was expected there or without."""
         if isinstance(error, promql.QueryError):
-            message = self.variables.put_back(error.message) if self.variables else error.message
-            return self.fault(error.start, error.end, message)
+            message = error.message if is_explained else error.reason
+            return self.fault(error.start, error.end, self.variables.put_back(message) if self.variables else message)
         if isinstance(error, UnicodeEncodeError):
             return self.fault(error.start, error.end, "half of a surrogate pair")
         return self.whole(str(error))

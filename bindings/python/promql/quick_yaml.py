@@ -47,9 +47,11 @@ class QuickYaml:
 
     def token(self, key: Node, value: Node) -> Token:
         start, sign = value.start, _VALUE.match(self._text, key.end)
-        if key.anchor or not sign or sign.end() > start:
+        # (what an alias stands for is before its key, and has an anchor)
+        is_alias = start < key.start and value.anchor
+        if not is_alias and (key.anchor or not sign or sign.end() > start):
             raise Unclear
-        before = sign.end()
+        before = sign.end() if sign else start
         if value.anchor:
             anchor = _ANCHOR.match(self._text, start)
             if not anchor:

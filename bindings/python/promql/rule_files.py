@@ -9,6 +9,7 @@ from dataclasses import replace
 from functools import partial
 from typing import Any, Callable, Dict, Iterator, List, Optional, Set, Tuple
 
+from .checked_queries import QueryChecker
 from .exact_yaml import ExactYaml, look_for_reader
 from .files import Fault, FileError, Source, counted, nested_too_deeply
 from .queries import Query, SameQuery
@@ -48,9 +49,10 @@ _UNREAD = "the places of its characters cannot be told: write it in another styl
 class RuleFile:
     """A rule file, of one document or several."""
 
-    def __init__(self, source: Source) -> None:
+    def __init__(self, source: Source, checker: Optional[QueryChecker] = None) -> None:
         look_for_reader()
         self.source = source
+        self.checker = checker or QueryChecker()
         try:
             self._parts = _Parts(source, QuickYaml(source))
         except Unclear:

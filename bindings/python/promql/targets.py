@@ -3,7 +3,7 @@
 from __future__ import annotations
 
 import os
-from typing import Iterator, List, NamedTuple, Sequence
+from typing import Iterator, List, NamedTuple, Optional, Sequence
 
 
 class Target(NamedTuple):
@@ -14,6 +14,8 @@ class Target(NamedTuple):
     is_found: bool = False
     # Why it cannot be worked on.
     fault: str = ""
+    # The query that is meant, where it is no file.
+    query: Optional[str] = None
 
 
 def targets_of(names: Sequence[str], is_dashboard: bool) -> List[Target]:
@@ -29,7 +31,8 @@ def _in_folder(folder: str, ends: Sequence[str]) -> Iterator[Target]:
     for place, folders, files in os.walk(folder, onerror=errors.append):
         folders[:] = [name for name in folders if not name.startswith(".")]
         found = (os.path.join(place, name) for name in files if name.endswith(tuple(ends)) and not name.startswith("."))
-        paths += filter(os.path.isfile, found)
+        # (of what is no file, such as a pipe, nothing is said, but a link that leads nowhere was meant as one)
+        paths += (path for path in found if os.path.isfile(path) or not os.path.exists(path))
     for error in errors:
         yield Target(str(error.filename), fault=f"{error.filename}: {error.strerror}")
     if not paths and not errors:

@@ -7,7 +7,8 @@ Call('rate', args=(RangeSelector('foo', 300000),))
 >>> print(tree.Aggregation("sum", expr, grouping=("job",)))
 sum by (job) (rate(foo[5m]))
 
-A tree is made of frozen dataclasses, so it is never changed, and may be the key of a dictionary. `parse` reads one, `str` prints it, and
+A tree is made of frozen dataclasses, so it is never changed, and may be the key of a dictionary. Sequences in it are tuples, and a field
+of another type is a TypeError where the node is made. `parse` reads one, `str` prints it, and
 `from_json` and `to_json` are the ways from and to the JSON form (docs/reference/json.md), which has all that a tree has. Times and lengths
 of time are whole milliseconds. docs/guide/trees.md has examples.
 """
@@ -19,25 +20,8 @@ from typing import Callable, List
 import promql
 
 from ._members import FormError
-from ._nodes import (
-    Aggregation,
-    At,
-    Binary,
-    Call,
-    Cardinality,
-    Expr,
-    ManyToOne,
-    Matcher,
-    Matching,
-    Number,
-    OneToMany,
-    Paren,
-    RangeSelector,
-    Selector,
-    String,
-    Subquery,
-    Unary,
-)
+from ._nodes import Aggregation, At, Binary, Call, Expr, Number, Paren, RangeSelector, Selector, String, Subquery, Unary
+from ._parts import Cardinality, ManyToOne, Matcher, Matching, OneToMany
 from ._printing import NodeError, tree_of
 
 __all__ = [
@@ -85,7 +69,7 @@ def parse(query: str, *, places: bool = False) -> Expr:
 
 def from_json(form: object) -> Expr:
     """The tree of a JSON form, as `promql.parse` and `to_json` give it. Raises FormError where it is none, with the path of the first
-    member at fault.
+    member at fault; also where more than 100,000 nodes are above one another, as in a dictionary that is below itself.
 
     Types of expressions, names and patterns are not looked at: `str` raises NodeError where they are wrong.
     """

@@ -11,6 +11,7 @@ import promql
 from command_line import run
 from grafana_queries import LAID_OUT, LEFT, QUERIES, VALUES, WRONG
 from promql.files import BLANKS
+from promql.checked_queries import QueryChecker
 from promql.grafana_variables import VARIABLE, read_variables
 from promql.queries import PlacedText
 from test_dashboards import Folder
@@ -32,7 +33,7 @@ PIECES = (
 def read(query):
     text = PlacedText()
     text.put(query, 0)
-    return read_variables(text)
+    return read_variables(text, QueryChecker())
 
 
 def with_values(query):

@@ -7,7 +7,7 @@ from pathlib import Path
 
 import promql
 from promql.lint import RULES, RuleContext, Selection, Severity, fix, known_codes, lint, look_at_tree
-from promql.lint.fixes import edited_query, meant_by
+from promql.lint.fixes import edited_query
 from promql.lint.places import places_of
 from promql.lint.tokens import tokens_of
 
@@ -24,9 +24,12 @@ CONTEXTS = {
     "P502": RuleContext(alert="A"),
     "P503": ALERT,
 }
+# Two texts of which each character of the one would be held against each of the other.
+LARGE = 'up{a="' + "b" * 10_000 + '",a=~"' + "b?" * 100 + '"}'
 # For each code queries with what is marked in them, and the query with the fix where there is one.
 FOUND = (
     ("P001", "holt_winters(up[5m], 1, 1)", "holt_winters", None),
+    ("P002", LARGE, LARGE, None),
     ("P101", 'up{a=~"(?x)b"}', 'a=~"(?x)b"', None),
     ("P101", 'up{a=~"x**"}', 'a=~"x**"', None),
     ("P101", 'up{a=~"x{1001}"}', 'a=~"x{1001}"', None),
@@ -121,6 +124,7 @@ FOUND = (
 )
 # For each code queries in which it is not found.
 NOT_FOUND = (
+    ("P002", 'up{a="' + "b" * 1_000 + '",a=~"' + "b?" * 100 + '"}'),
     ("P001", "up"),
     ("P101", r'up{a=~"(?i)b[[:alpha:]]+\\p{Greek}\\pL(?P<n>x)(?:y)(?s:z)"}'),
     ("P101", 'up{a=~"x{500}y{500}z{"}'),
@@ -209,6 +213,17 @@ NOT_FOUND = (
 
 def found_by(code, query):
     return [it for it in lint(query, select=(code,), context=CONTEXTS.get(code))]
+
+
+def meant_by(value, changes):
+    """The JSON form that a part of a query is to have after changes of a fix."""
+    if id(value) in changes:
+        return meant_by(changes[id(value)], changes)
+    if isinstance(value, dict):
+        return {key: meant_by(item, changes) for key, item in value.items()}
+    if isinstance(value, list):
+        return [meant_by(item, changes) for item in value if changes.get(id(item), item) is not None]
+    return value
 
 
 class Rules(unittest.TestCase):
@@ -331,7 +346,7 @@ class ManyQueries(unittest.TestCase):
                 if finding.fix:
                     fixes += 1
                     changed = edited_query(query, finding.fix.edits)
-                    self.assertEqual(promql.parse(changed), meant_by(tree, finding.fix), query)
+                    self.assertEqual(promql.parse(changed), meant_by(tree, {id(old): new for old, new in finding.fix.changes}), query)
                     self.assertEqual(tokens_of(changed)[1], tokens_of(query)[1])
         self.assertGreater(fixes, 100)
 

@@ -105,6 +105,37 @@ class Texts(unittest.TestCase):
             promql.format_query("1 +")
         self.assertEqual(str(raised.exception), "1:4: " + NO_OPERAND)
 
+    def test_targets(self):
+        query = r'a{b="\xc3\xa9"}'
+        line = 'a{b="Ã©"}'
+        said = "Prometheus reads this otherwise: the escape is a byte there, and a character here"
+
+        def answers():
+            return [
+                lambda: promql.check(query),
+                lambda: promql.enforce(query, "c='1'"),
+                lambda: promql.rename_metric(query, "a", "a"),
+                lambda: promql.rename_label(query, "c", "d"),
+                lambda: promql.format_query(query),
+            ]
+
+        for call in answers():
+            with self.assertRaises(promql.ReadOtherwiseError) as raised:
+                call()
+            self.assertEqual((raised.exception.start, raised.exception.end, raised.exception.message), (5, 9, said))
+        with self.assertRaises(promql.MatcherError) as of_matcher:
+            promql.enforce("a", r'b="\xc3"')
+        self.assertRegex(str(of_matcher.exception), "^Prometheus reads the matcher otherwise: the escape at byte 3 ")
+        self.assertEqual(promql.canonical(query), line)
+        self.assertEqual(promql.format(query), line)
+        with self.assertRaises(ValueError):
+            promql.set_target("prometheus-4")
+        promql.set_target("rules")
+        try:
+            self.assertEqual([call() for call in answers()], [None, 'a{b="Ã©",c="1"}', line, line, line])
+        finally:
+            promql.set_target("prometheus-3")
+
     def test_long_output(self):
         promql.set_limits(max_output=5)
         try:
@@ -205,6 +236,39 @@ class Texts(unittest.TestCase):
         finally:
             promql.set_limits()
 
+    def test_large_trees(self):
+        number = {"type": "numberLiteral", "val": "1"}
+        for most, said in ((33, "tree is too long: 34 bytes, at most 33"), (34, None)):
+            promql.set_limits(max_tree=most)
+            try:
+                if said is None:
+                    self.assertEqual(promql.print_tree(number), "1")
+                else:
+                    with self.assertRaisesRegex(promql.TooLargeTreeError, f"^{said}$"):
+                        promql.print_tree(number)
+            finally:
+                promql.set_limits()
+        for form, size in (
+            ({"type": "=~", "value": "c{3000}"}, 39_013),
+            ({"x": [[{"type": "!~", "value": "c{1000}"}], {"type": "=~", "value": "c{1000}"}]}, 26_026),
+        ):
+            with self.assertRaisesRegex(promql.TooLargeTreeError, f"^patterns are too large: {size}, at most 16000$"):
+                promql.print_tree(form)
+
+    def test_long_lists(self):
+        """Lists of so many parts have their places, and are read back."""
+        for size in (21, 1_000):
+            parts = [f"l{number}" for number in range(1_000, 1_000 + size)]
+            for query, found in (
+                (f"sum by ({', '.join(parts)}) (foo)", lambda tree: tree["grouping"]),
+                (f"{{{','.join(part + '=~`x`' for part in parts)}}}", lambda tree: tree["matchers"]),
+                (f"{{a='b' or {' or '.join(part + '=`x`' for part in parts)}}}", lambda tree: [it[0] for it in tree["or_matchers"][1:]]),
+                (f"label_join(foo, 'a', 'b', {', '.join(map(repr, parts))})", lambda tree: tree["args"][3:]),
+            ):
+                made = [it if isinstance(it, str) else query[it["start"] : it["end"]] for it in found(promql.parse(query, places=True))]
+                self.assertEqual([it.strip("'").partition("=")[0] for it in made], parts, query[:20])
+                self.assertEqual(promql.print_tree(promql.parse(query)), promql.canonical(query))
+
     def test_long_texts(self):
         query = "+".join(["x"] * 500)
         self.assertEqual(promql.canonical(query), " + ".join(["x"] * 500))
@@ -258,17 +322,22 @@ class Errors(unittest.TestCase):
             self.assertEqual((error.expected, error.found, error.message), (expected, found, message))
             self.assertEqual(error.reason, "invalid promql query")
 
+    def test_expected_after_large_patterns(self):
+        """No pattern is compiled to find what was expected."""
+        error = self.error_of('{a=~"\\\\w{300}",' + "b=~`(?i)\\PL`," * 26 + "c}")
+        self.assertEqual((error.expected, error.found), (('"="', '"=~"', '"!="', '"!~"'), '"}"'))
+        self.assertEqual(error.message, 'unexpected "}", expected "=", "=~", "!=" or "!~"')
+
     def test_levels(self):
         error = self.error_of(" + ".join(["a"] * 513))
         self.assertEqual((error.expected, error.found, error.reason), ((), None, "expression nested too deeply"))
         self.assertEqual(error.message, "more than 512 levels: put parts of a long chain in parentheses, or split the query")
 
     def test_nothing_expected(self):
-        """At an error that is no syntax error, and where the patterns are too large to be compiled once for each kind of token."""
+        """At an error that is no syntax error."""
         for query, message in (
             ("nosuch(1)", "unknown function with name 'nosuch'"),
             ("", "no expression found in input"),
-            ('foo{a=~"\\\\w{690}"} b', "invalid promql query"),
             ('a{b=~"c{3000}"}', "patterns are too large: 39013, at most 16000"),
         ):
             error = self.error_of(query)

@@ -1,5 +1,6 @@
 """Tests of promql.tree: python3 -m unittest discover -s tests, where Python finds the package. bindings/trees.py has those over the rows."""
 
+import dataclasses
 import pickle
 import sys
 import unittest
@@ -196,11 +197,46 @@ class Trees(unittest.TestCase):
             exec(MATCH, {**names, "expr": tree.parse(query)})
         self.assertEqual(names["found"], [("call", "rate", 300_000), ("sum", ("job",)), ("binary", "a", "2")])
 
-    def test_lists(self):
-        """Lists in place of tuples, as a caller may have them."""
-        expr = Call("rate", [RangeSelector("foo", 60_000, [Matcher("a", "=", "1")])])
-        self.assertEqual(tree.from_json(expr.to_json()), tree.parse("rate(foo{a='1'}[1m])"))
-        self.assertEqual(tree.transform(expr, with_matchers), tree.parse("rate(foo{a='1',t='1'}[1m])"))
+    def test_fields(self):
+        """A value of another type is an error that names the field, where the node is made."""
+        up, matcher = Selector("up"), Matcher("a", "=", "1")
+        for made, message in (
+            (lambda: Unary("foo"), "Unary.expr: expected an expression, got str"),
+            (lambda: Paren(None), "Paren.expr: expected an expression, got NoneType"),
+            (lambda: Selector("a", [matcher]), "Selector.matchers: expected a tuple of Matcher, got list"),
+            (lambda: Selector("a", (matcher, "b")), "Selector.matchers[1]: expected Matcher"),
+            (lambda: Selector("a", or_matchers=((matcher,), [matcher])), "Selector.or_matchers[1]: expected a tuple of Matcher"),
+            (lambda: RangeSelector("a", 1, or_matchers=((matcher, 1),)), "RangeSelector.or_matchers[0][1]: expected Matcher"),
+            (lambda: RangeSelector("a", 1.5), "RangeSelector.range: expected a whole number, got float"),
+            (lambda: RangeSelector("a", True), "RangeSelector.range: expected a whole number, got bool"),
+            (lambda: Subquery(up, 1, "5m"), "Subquery.step: expected a whole number or None, got str"),
+            (lambda: Selector("a", at=1.5), "Selector.at: expected a whole number, a string or None, got float"),
+            (lambda: Selector(1), "Selector.name: expected a string or None, got int"),
+            (lambda: Call("abs", [up]), "Call.args: expected a tuple of expressions, got list"),
+            (lambda: Call("abs", (up, "b")), "Call.args[1]: expected an expression"),
+            (lambda: Aggregation("sum", up, ["a"]), "Aggregation.grouping: expected a tuple of strings, got list"),
+            (lambda: Aggregation("sum", up, "job"), "Aggregation.grouping: expected a tuple of strings, got str"),
+            (lambda: Aggregation("sum", up, ("a", 1)), "Aggregation.grouping[1]: expected a string"),
+            (lambda: Aggregation("topk", up, param=5), "Aggregation.param: expected an expression or None, got int"),
+            (lambda: Binary(up, "+", up, matching="on"), "Binary.matching: expected Matching or None, got str"),
+            (lambda: Matching(labels=["a"]), "Matching.labels: expected a tuple of strings, got list"),
+            (lambda: Matching(card=None), "Matching.card: expected a string, ManyToOne or OneToMany, got NoneType"),
+            (lambda: ManyToOne("a"), "ManyToOne.labels: expected a tuple of strings, got str"),
+            (lambda: Matching(fill_left=1), "Matching.fill_left: expected a string or None, got int"),
+            (lambda: Matcher("a", "=", 1), "Matcher.value: expected a string, got int"),
+            (lambda: Number(1), "Number.value: expected a string, got int"),
+            (lambda: String(b"a"), "String.value: expected a string, got bytes"),
+            (lambda: up.replace(matchers=[matcher]), "Selector.matchers: expected a tuple of Matcher, got list"),
+            (lambda: dataclasses.replace(up, offset=None), "Selector.offset: expected a whole number, got NoneType"),
+            (lambda: up.with_matcher("a"), "Selector.matchers[0]: expected Matcher"),
+            (lambda: Paren(up).with_children(["a"]), "Paren.expr: expected an expression, got str"),
+            (lambda: tree.transform(Paren(up), lambda it: None), "Paren.expr: expected an expression, got NoneType"),
+        ):
+            with self.subTest(message), self.assertRaises(TypeError) as raised:
+                made()
+            self.assertEqual(str(raised.exception), message)
+        for number in (2**64, -(2**63) - 1, 10**5000):
+            self.assertRaises(ValueError, RangeSelector, "a", number)
 
     def test_high_trees(self):
         expr = Selector("a")

@@ -8,16 +8,16 @@ P103 the pattern matches one text alone: write `job="shop"`
 
 from __future__ import annotations
 
-from typing import Iterable, List, Optional
+from typing import Callable, Iterable, Iterator, List, Optional
 
 import promql
 
 from . import alert_rules, counter_rules, label_rules, matcher_rules, operator_rules, style_rules
 from .comments import ignored_in
 from .findings import Finding, Fix, Severity, Span, TextEdit, Tree
-from .fixes import all_fixed, checked
+from .fixes import FixChecker, all_fixed
 from .subject import IsWritten, RuleContext, Subject, always
-from .table import REJECTED, RULES, Rule, Selection, known_codes, unknown_words
+from .table import REJECTED, RULES, UNCOMPARED, Rule, Selection, known_codes, unknown_words
 
 __all__ = [
     "Finding",
@@ -36,6 +36,7 @@ __all__ = [
 
 # The modules whose functions are the rules of the table.
 _MODULES = (matcher_rules, counter_rules, operator_rules, label_rules, alert_rules, style_rules)
+_UNCOMPARED = "its patterns and values are too large together to be compared: P108 and P109 are not looked for in patterns"
 # Functions that are gone, and what is there for them.
 _GONE = {
     "holt_winters": "it is `double_exponential_smoothing` since Prometheus 3.0",
@@ -69,7 +70,7 @@ def fix(
     """The query with the fixes of all findings that have one. Each was checked: the changed query is read again, and has the tree that the
     fix intends, and the comments."""
     selection = selection_of(select, ignore)
-    return all_fixed(query, lambda text, tree: look_at_tree(text, tree, selection, context or RuleContext()))
+    return all_fixed(query, lambda text, tree: list(found_in(text, tree, selection, context or RuleContext())))
 
 
 def selection_of(select: Iterable[str], ignore: Iterable[str]) -> Selection:
@@ -80,15 +81,26 @@ def selection_of(select: Iterable[str], ignore: Iterable[str]) -> Selection:
     return selection
 
 
+def _always(error: promql.QueryError) -> bool:
+    return True
+
+
 def look_at(
-    query: str, selection: Selection, context: RuleContext, is_written: IsWritten = always, has_fixes: bool = True
+    query: str,
+    selection: Selection,
+    context: RuleContext,
+    is_written: IsWritten = always,
+    has_fixes: bool = True,
+    explains: Callable[[promql.QueryError], bool] = _always,
 ) -> List[Finding]:
     """The same for a query of a file, of which texts may stand there for variables. To check a fix the query is read again, so it takes
-    less time without fixes."""
+    less time without fixes. The same goes for saying what was expected in a query that is rejected."""
     try:
         tree = promql.parse(query)
     except promql.QueryError as error:
-        return [_rejected(error)] if selection.has(REJECTED) else []
+        if not selection.has(REJECTED):
+            return []
+        return [_rejected(error, error.message if explains(error) else error.reason)]
     return look_at_tree(query, tree, selection, context, is_written, has_fixes)
 
 
@@ -96,19 +108,26 @@ def look_at_tree(
     query: str, tree: Tree, selection: Selection, context: RuleContext, is_written: IsWritten = always, has_fixes: bool = True
 ) -> List[Finding]:
     """The same for a query that was read."""
+    found = list(found_in(query, tree, selection, context, is_written))
+    right = FixChecker(query, tree).checked([it.fix for it in found]) if has_fixes else [None] * len(found)
+    return sorted((it._replace(fix=fix) for it, fix in zip(found, right)), key=lambda it: it[:3])
+
+
+def found_in(
+    query: str, tree: Tree, selection: Selection, context: RuleContext, is_written: IsWritten = always
+) -> Iterator[Finding]:
+    """The same, rule by rule, with fixes that are not checked."""
     subject = Subject(query, tree, context, is_written)
     ignored = ignored_in(query)
-    found = [
-        Finding(remark.span, rule.code, remark.message, rule.severity, checked(query, tree, remark.fix) if has_fixes else None)
-        for rule in selection.rules()
-        if not ignored.has(rule.code)
-        for remark in rule.look(subject)
-    ]
-    return sorted(found, key=lambda it: it[:3])
+    if selection.has(UNCOMPARED) and not ignored.has(UNCOMPARED) and not subject.compares_patterns:
+        yield Finding(subject.whole, UNCOMPARED, _UNCOMPARED, Severity.INFO)
+    for rule in selection.rules():
+        if not ignored.has(rule.code):
+            for remark in rule.look(subject):
+                yield Finding(remark.span, rule.code, remark.message, rule.severity, remark.fix)
 
 
-def _rejected(error: promql.QueryError) -> Finding:
-    message = error.message
+def _rejected(error: promql.QueryError, message: str) -> Finding:
     name = error.query[error.start : error.end].partition("(")[0].strip()
     hint = f": {_GONE[name]}" if name in _GONE and "unknown function" in error.reason else ""
     return Finding(Span(error.start, error.end), REJECTED, message + hint, Severity.ERROR)

@@ -3,28 +3,39 @@
 from __future__ import annotations
 
 import re
-from typing import List, NamedTuple, Tuple
+from functools import lru_cache
+from typing import FrozenSet, Iterable, List, NamedTuple, Tuple
 
-from .table import is_meant
+from .table import is_meant, known_codes
 from .tokens import tokens_of
 
 _COMMENT = re.compile(r"#\s*promql:\s*ignore(-file)?(?![\w-])[ \t]*([\w, \t]*)")
 
 
 class Ignored(NamedTuple):
-    """The codes that are silenced, or what they begin with."""
+    """The codes that are silenced."""
 
-    words: Tuple[str, ...] = ()
+    codes: FrozenSet[str] = frozenset()
 
     def has(self, code: str) -> bool:
-        return any(is_meant(code, word) for word in self.words)
+        return code in self.codes
+
+
+def ignored_by(words: Iterable[str]) -> Ignored:
+    """What words of comments silence: codes, and what these begin with."""
+    return Ignored(frozenset(code for word in set(words) for code in _codes(word)))
+
+
+@lru_cache(maxsize=1024)
+def _codes(word: str) -> Tuple[str, ...]:
+    return tuple(code for code in known_codes() if is_meant(code, word))
 
 
 def ignored_in(query: str) -> Ignored:
     """What the comments of a query silence."""
     if "promql:" not in query:
         return Ignored()
-    return Ignored(tuple(word for comment in tokens_of(query)[1] for _, words in comments_of(comment) for word in words))
+    return ignored_by(word for comment in tokens_of(query)[1] for _, words in comments_of(comment) for word in words)
 
 
 def comments_of(line: str) -> List[Tuple[bool, Tuple[str, ...]]]:

@@ -110,7 +110,8 @@ def short_range(subject: Subject) -> Iterator[Remark]:
 
 def _is_in_subquery(subject: Subject, node: Tree) -> bool:
     """Whether a node is evaluated many times for each evaluation of the query."""
-    above = subject.parent(node)
-    while above and above["type"] != "subquery":
-        above = subject.parent(above)
-    return above is not None
+    return subject.is_below(node, _is_subquery)
+
+
+def _is_subquery(node: Tree) -> bool:
+    return bool(node["type"] == "subquery")

@@ -5,7 +5,7 @@ from __future__ import annotations
 import json
 from dataclasses import replace
 from difflib import SequenceMatcher
-from typing import Callable, Dict, List, NamedTuple, Optional, Sequence, Tuple
+from typing import Any, Dict, List, NamedTuple, Optional, Sequence, Tuple
 
 from ..dashboards import Dashboard, JsonString
 from ..documents import Document
@@ -13,21 +13,28 @@ from ..files import BLANKS, Fault, FileError, Source
 from ..queries import Edit, Query, edited
 from ..rule_files import RuleFile
 from ..scalars import Scalar
-from . import look_at, look_at_tree
+from . import found_in
 from .comments import Ignored
-from .findings import Finding, TextEdit, Tree
+from .findings import Finding, Fix, TextEdit, Tree
 from .fixes import all_fixed, edited_query
 from .given_queries import GivenQuery
-from .rule_places import RulePlace, rules_of
+from .known_looks import LOOKS, KnownLooks
+from .rule_places import MOST_INTERVALS, RulePlace, rules_of
 from .silence import Silences
 from .subject import IsWritten, RuleContext, always
 from .table import Selection
 
 # A longer part that changed is written whole.
-_LONGEST_COMPARED = 4_000
+_LONGEST_COMPARED = 1_000
+# More findings than anyone reads of a file.
+MOST_FINDINGS = 5_000
+# For so many rules that differ an alias's query is looked at.
+MOST_CONTEXTS = 16
+# The most characters of changed queries that a report on a file has.
+_MOST_FIXED = 4_194_304
+# How often a file is read at most to find which fixes are right.
+_MOST_READS = 24
 
-# What looks at a query, as `look_at` does.
-LookAt = Callable[[str, Selection, RuleContext, IsWritten], List[Finding]]
 # A query, and the text that is to be there instead.
 _Change = Tuple[Query, str]
 
@@ -38,7 +45,7 @@ class FileFinding(NamedTuple):
     start: int
     end: int
     finding: Finding
-    # The changed query, where there is a fix, and the edits of the file that make it, where it spells the query plainly.
+    # The changed query, where there is a fix and these are not too long together, and the edits of the file that make it, where it spells the query plainly.
     fixed_query: Optional[str]
     edits: Tuple[Edit, ...]
 
@@ -46,25 +53,48 @@ class FileFinding(NamedTuple):
 class FileLinter:
     """Looks at the queries of one file."""
 
-    def __init__(self, document: Document, selection: Selection, look: LookAt = look_at) -> None:
+    def __init__(self, document: Document, selection: Selection, looks: KnownLooks = LOOKS, has_fixes: bool = True) -> None:
         self._document = document
         self._selection = selection
-        self._look_at = look
+        self._looks = looks
+        self._has_fixes = has_fixes
         source = document.source
         self._silences = Silences(source) if isinstance(document, RuleFile) else None
-        # The queries that are not looked at.
+        # What is not looked at.
         self.left: List[Fault] = []
+        self._fixed_length = 0
+        self._reads = _MOST_READS
         self._rules: Dict[int, List[RulePlace]] = {}
-        for rule in rules_of(document) if isinstance(document, RuleFile) else ():
+        if isinstance(document, RuleFile):
+            self._take_rules(document)
+
+    def _take_rules(self, file: RuleFile) -> None:
+        found = rules_of(file)
+        for rule in found.places:
             self._rules.setdefault(rule.query_end, []).append(rule)
+        message = f"its aliases are in groups of more than {MOST_INTERVALS} intervals: the rule is looked at with {MOST_INTERVALS} of these"
+        self.left += [Fault(at, at, message) for at in found.cut]
 
     def findings(self) -> List[FileFinding]:
         found: List[FileFinding] = []
+        left: List[Query] = []
+        checker = self._document.checker
         for query in self._document.queries:
+            if query.skipped:
+                continue
+            if not checker.admits(query.text):
+                left.append(query)
+                continue
+            if len(found) > MOST_FINDINGS:
+                self.left.append(query.whole(f"not looked at from here on: there are more than {MOST_FINDINGS:,} findings before"))
+                break
             try:
-                found += [self._placed(query, it) for it in self._look_at_query(query)] if not query.skipped else []
+                found += [self._placed(query, it) for it in self._look_at_query(query)]
             except RecursionError:
                 self.left.append(query.whole("not looked at: nested too deeply for the linter"))
+            except ValueError as error:
+                self.left.append(checker.rejected(query, error))
+        self.left += checker.left(left)
         return sorted(found, key=lambda it: (it.start, it.end, it.finding.code, it.finding.message))
 
     def _rules_of(self, query: Query) -> Sequence[RulePlace]:
@@ -74,17 +104,30 @@ class FileLinter:
     def _look_at_query(self, query: Query) -> List[Finding]:
         """What is found in a query, for each of the rules that have it."""
         found: Dict[Tuple[int, int, str, str], Finding] = {}
-        for context, ignored in self._contexts(query):
-            for finding in self._look_at(query.text, self._selection, context, self._is_written(query)):
+        contexts = self._contexts(query)
+        if len(contexts) > MOST_CONTEXTS:
+            count = f"{len(contexts):,} rules that differ"
+            self.left.append(query.whole(f"an alias has it in {count}: it is looked at for {MOST_CONTEXTS} of these"))
+        for context, ignored in contexts[:MOST_CONTEXTS]:
+            for finding in self._look(query, context):
                 if not ignored.has(finding.code):
                     found[(*finding.span, finding.code, finding.message)] = finding
         return list(found.values())
 
+    def _look(self, query: Query, context: RuleContext) -> List[Finding]:
+        """What is found in a query for one rule that has it."""
+        is_written, explains = self._is_written(query), self._document.checker.explains
+        return self._looks.look_at(query.text, self._selection, context, is_written, self._has_fixes, explains)
+
     def _contexts(self, query: Query) -> List[Tuple[RuleContext, Ignored]]:
-        """The rules that have a query, and what comments silence there."""
+        """The rules that have a query and differ to the linter, and what comments silence there."""
         places = [(it.context, it.start, it.end) for it in self._rules_of(query)] or [self._bare(query)]
         silences = self._silences
-        return [(context, silences.between(start, end) if silences else Ignored()) for context, start, end in places]
+        found: Dict[Tuple[Any, ...], Tuple[RuleContext, Ignored]] = {}
+        for context, start, end in places:
+            ignored = silences.between(start, end) if silences else Ignored()
+            found.setdefault((context.key, ignored), (context, ignored))
+        return list(found.values())
 
     @staticmethod
     def _is_written(query: Query) -> IsWritten:
@@ -104,9 +147,14 @@ class FileLinter:
         edits = self._plain_edits(query, fix.edits) if fix else None
         if query.variables and edits is None:
             fix = None
-        made = _with_variables(query, edited_query(query.text, fix.edits)) if fix else None
+        made = self._fixed_query(query, fix) if fix else None
         shown = finding._replace(message=_with_variables(query, finding.message), fix=fix)
         return FileFinding(start, end, shown, made, tuple(edits or ()))
+
+    def _fixed_query(self, query: Query, fix: Fix) -> Optional[str]:
+        """The query with a fix, as long as those of the file are not too long together."""
+        self._fixed_length += len(query.text)
+        return _with_variables(query, edited_query(query.text, fix.edits)) if self._fixed_length <= _MOST_FIXED else None
 
     def _plain_edits(self, query: Query, edits: Sequence[TextEdit]) -> Optional[List[Edit]]:
         """Edits of the file, where it has the parts of the query as they are."""
@@ -130,13 +178,23 @@ class FileLinter:
     def fixed(self) -> Tuple[str, int]:
         """The text of the file with all fixes in it, and how many queries that changes."""
         changes = [change for change in map(self._change, self._document.queries) if change]
+        self._reads = _MOST_READS
         text = self._with(changes)
         if text is None:
-            changes = [change for change in changes if self._with([change]) is not None]
+            changes = self._right(changes[: len(changes) // 2]) + self._right(changes[len(changes) // 2 :])
             text = self._with(changes)
         if text is None:
             raise FileError(f"{self._document.source.name}: left as it is: fixed, it would not be read as the same")
         return text, len(changes)
+
+    def _right(self, changes: Sequence[_Change]) -> List[_Change]:
+        """Those of some changes with which the file is read as it is to be, as far as the file is read so often to find them."""
+        if not changes or self._reads <= 0:
+            return []
+        if self._with(changes) is not None:
+            return list(changes)
+        half = len(changes) // 2
+        return self._right(changes[:half]) + self._right(changes[half:]) if half else []
 
     def _with(self, changes: Sequence[_Change]) -> Optional[str]:
         """The text of the file with these changes, where it is read as that."""
@@ -146,6 +204,7 @@ class FileLinter:
         wanted = {id(query): text.rstrip(BLANKS) for query, text in changes}
         texts = [wanted.get(id(query), query.text) for query in self._document.queries]
         for plainly in (True, False):
+            self._reads -= 1
             edits = [self._edits(query, text, plainly) for query, text in changes]
             made = edited(source.text, (edit for some in edits for edit in some))
             if all(edits) and self._has(made, texts):
@@ -153,21 +212,32 @@ class FileLinter:
         return None
 
     def _change(self, query: Query) -> Optional[_Change]:
-        if query.skipped or query.kept:
+        if query.skipped or query.kept or not self._document.checker.admits(query.text):
             return None
         contexts = self._contexts(query)
+        if not self._has_fix(query, contexts):
+            return None
 
         def look(text: str, tree: Tree) -> List[Finding]:
             # (what a fix changes is in all rules that have the query)
             context, _ = contexts[0]
-            found = look_at_tree(text, tree, self._selection, context, self._is_written(query))
+            found = found_in(text, tree, self._selection, context, self._is_written(query))
             return [it for it in found if not any(ignored.has(it.code) for _, ignored in contexts)]
 
         try:
             text = all_fixed(query.text, look)
-        except RecursionError:
+        except (RecursionError, ValueError):
+            # (as is told by `findings`)
             return None
         return (query, text) if text != query.text else None
+
+    def _has_fix(self, query: Query, contexts: Sequence[Tuple[RuleContext, Ignored]]) -> bool:
+        """Whether a finding of a query has a fix, so that there is one to make."""
+        try:
+            found = self._look(query, contexts[0][0])
+        except (RecursionError, ValueError):
+            return False
+        return any(finding.fix for finding in found)
 
     def _edits(self, query: Query, text: str, plainly: bool) -> List[Edit]:
         """What writes another text in the place of a query: edits of the parts that differ, or one of the whole. There is none of a whole
@@ -192,7 +262,7 @@ def _read_again(document: Document, source: Source) -> Document:
     if isinstance(document, RuleFile):
         return RuleFile(source)
     if isinstance(document, Dashboard):
-        return Dashboard(source)
+        return Dashboard(source, checker=document.checker.anew())
     return GivenQuery(source)
 
 
@@ -221,6 +291,5 @@ def fault_of(found: FileFinding) -> Fault:
 
 def place_of(source: Source, offset: int) -> Tuple[int, int]:
     """The line and the column of a character, from 1."""
-    number, begin, _ = source.line_around(offset)
-    return number, offset - begin + 1
+    return source.lines.place(offset)
 

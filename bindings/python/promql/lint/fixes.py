@@ -2,7 +2,8 @@
 
 from __future__ import annotations
 
-from typing import Any, Callable, Dict, List, Optional, Sequence, Set
+from bisect import bisect_left, insort
+from typing import Any, Callable, Dict, Iterator, List, NamedTuple, Optional, Sequence, Set, Tuple
 
 import promql
 
@@ -10,7 +11,11 @@ from .findings import Finding, Fix, TextEdit, Tree
 from .tokens import tokens_of
 
 # More rounds of fixes than any query needs.
-_MOST_ROUNDS = 100
+_MOST_ROUNDS = 20
+# Of so few fixes each is checked by itself. More are checked together, by halves where they are not right together.
+_FEW = 4
+# How often a query is read at most to check what is found in it, and to fix it.
+_MOST_READS = 24
 
 
 def edited_query(query: str, edits: Sequence[TextEdit]) -> str:
@@ -21,62 +26,135 @@ def edited_query(query: str, edits: Sequence[TextEdit]) -> str:
     return "".join([*parts, query[at:]])
 
 
-def meant_by(tree: Tree, fix: Fix) -> Tree:
-    """The JSON form that a query of this form is to have after a fix."""
-    meant: Tree = _changed(tree, {id(old): new for old, new in fix.changes})
-    return meant
+class Changed(NamedTuple):
+    """A query that fixes make, with its tree."""
+
+    query: str
+    tree: Tree
 
 
-def _changed(value: Any, changes: Dict[int, Any]) -> Any:
-    if id(value) in changes:
-        return _changed(changes[id(value)], changes)
-    if isinstance(value, dict):
-        return {key: _changed(item, changes) for key, item in value.items()}
-    if isinstance(value, list):
-        return [_changed(item, changes) for item in value if changes.get(id(item), item) is not None]
-    return value
+class FixChecker:
+    """Checks fixes of a query, which is read at most so often for that: what is not checked then counts as wrong."""
+
+    def __init__(self, query: str, tree: Tree) -> None:
+        self._query = query
+        self._tree = tree
+        self._reads = _MOST_READS
+        self._comments = tokens_of(query)[1] if "#" in query else []
+
+    def checked(self, fixes: Sequence[Optional[Fix]]) -> List[Optional[Fix]]:
+        """The fixes, without those that are wrong."""
+        found = [fix for fix in fixes if fix]
+        groups = [[fix] for fix in found] if len(found) <= _FEW else _apart(found)
+        right = {id(fix) for group in groups for fix in self._right(group)}
+        return [fix if fix and id(fix) in right else None for fix in fixes]
+
+    def _right(self, fixes: Sequence[Fix]) -> List[Fix]:
+        """Those of some fixes that do not meet which are right."""
+        if self.change(fixes):
+            return list(fixes)
+        if len(fixes) == 1 or not self._reads:
+            return []
+        half = len(fixes) // 2
+        return self._right(fixes[:half]) + self._right(fixes[half:])
+
+    def change(self, fixes: Sequence[Fix]) -> Optional[Changed]:
+        """What fixes make together, where it has the tree that they mean, and the comments of the query."""
+        if not self._reads:
+            return None
+        self._reads -= 1
+        changed = edited_query(self._query, [edit for fix in fixes for edit in fix.edits])
+        if self._comments and tokens_of(changed)[1] != self._comments:
+            return None
+        try:
+            tree = promql.parse(changed)
+        except ValueError:
+            return None
+        changes = {id(old): new for fix in fixes for old, new in fix.changes}
+        return Changed(changed, tree) if _is_meant(self._tree, changes, tree) else None
+
+    def best_change(self, fixes: Sequence[Fix]) -> Optional[Changed]:
+        """What as many of the fixes make as are right together, as far as that is found."""
+        group = next(_apart(fixes))
+        while True:
+            changed = self.change(group)
+            if changed or len(group) == 1:
+                return changed
+            right = self._right(group[: len(group) // 2]) or self._right(group[len(group) // 2 :])
+            group = right or group[:1]
+            if not self._reads:
+                return None
 
 
-def checked(query: str, tree: Tree, fix: Optional[Fix]) -> Optional[Fix]:
-    """A fix, where the changed query has the tree that is meant and the comments of the old one."""
-    if not fix:
-        return None
-    changed = edited_query(query, fix.edits)
-    if "#" in query and tokens_of(changed)[1] != tokens_of(query)[1]:
-        return None
-    try:
-        return fix if promql.parse(changed) == meant_by(tree, fix) else None
-    except ValueError:
-        return None
+def _is_meant(tree: Tree, changes: Dict[int, Any], found: Tree) -> bool:
+    """Whether a tree is another one with these changes."""
+    todo: List[Tuple[Any, Any]] = [(tree, found)]
+    while todo:
+        old, new = todo.pop()
+        while id(old) in changes:
+            old = changes[id(old)]
+        if type(old) is not type(new):
+            return False
+        if isinstance(old, dict):
+            if old.keys() != new.keys():
+                return False
+            todo.extend((item, new[key]) for key, item in old.items())
+        elif isinstance(old, list):
+            kept = [item for item in old if changes.get(id(item), item) is not None]
+            if len(kept) != len(new):
+                return False
+            todo.extend(zip(kept, new))
+        elif old != new:
+            return False
+    return True
 
 
 def all_fixed(query: str, look: Callable[[str, Tree], List[Finding]]) -> str:
     """A query with the fixes of what is found in it, and of what is found then, until there is none."""
+    try:
+        tree = promql.parse(query)
+    except ValueError:
+        return query
     for _ in range(_MOST_ROUNDS):
-        try:
-            tree = promql.parse(query)
-        except ValueError:
-            break
         fixes = [finding.fix for finding in look(query, tree) if finding.fix]
-        if not fixes:
+        changed = FixChecker(query, tree).best_change(fixes) if fixes else None
+        if not changed:
             break
-        together = checked(query, tree, _joined(fixes))
-        query = edited_query(query, (together or fixes[0]).edits)
+        query, tree = changed
     return query
 
 
-def _joined(fixes: Sequence[Fix]) -> Fix:
-    """As many of the fixes as do not meet, in one."""
-    edits: List[TextEdit] = []
-    changes: List[Any] = []
-    changed: Set[int] = set()
-    for fix in fixes:
+def _apart(fixes: Sequence[Fix]) -> Iterator[List[Fix]]:
+    """The fixes in groups of those that do not meet, each as large as may be."""
+    left = list(fixes)
+    while left:
+        group = _Group()
+        left = [fix for fix in left if not group.take(fix)]
+        yield group.fixes
+
+
+class _Group:
+    """Fixes that do not meet: they change different parts of the text, and of the tree."""
+
+    def __init__(self) -> None:
+        self.fixes: List[Fix] = []
+        self._edits: List[TextEdit] = []
+        self._changed: Set[int] = set()
+
+    def take(self, fix: Fix) -> bool:
+        """Takes a fix in, and returns whether that was possible."""
         parts = {id(old) for old, _ in fix.changes}
-        if not parts & changed and not any(_meet(edit, other) for edit in fix.edits for other in edits):
-            edits += fix.edits
-            changes += fix.changes
-            changed |= parts
-    return Fix(tuple(edits), tuple(changes))
+        if parts & self._changed or any(map(self._meets, fix.edits)):
+            return False
+        self.fixes.append(fix)
+        self._changed |= parts
+        for edit in fix.edits:
+            insort(self._edits, edit)
+        return True
+
+    def _meets(self, edit: TextEdit) -> bool:
+        at = bisect_left(self._edits, edit)
+        return any(_meet(edit, other) for other in self._edits[max(at - 1, 0) : at + 1])
 
 
 def _meet(one: TextEdit, other: TextEdit) -> bool:

@@ -4,6 +4,7 @@ from __future__ import annotations
 
 from typing import List, NamedTuple, Tuple
 
+from ..checked_queries import QueryChecker
 from ..files import Fault, Source
 from ..queries import Edit, Query, SameQuery
 
@@ -27,6 +28,7 @@ class GivenQuery:
 
     def __init__(self, source: Source) -> None:
         self.source = source
+        self.checker = QueryChecker()
         self.faults: List[Fault] = []
         self.notes: List[Fault] = []
         self.queries = [Query(source.text, range(len(source.text) + 1), _Whole(len(source.text)))]

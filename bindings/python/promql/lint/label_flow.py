@@ -6,7 +6,7 @@ from typing import Callable, Dict, FrozenSet, NamedTuple, Optional, Set
 
 from . import patterns
 from .findings import Tree
-from .trees import NAME, fills, inner, is_scalar, matching_of
+from .trees import NAME, fills, inner, matching_of
 
 _NONE: FrozenSet[str] = frozenset()
 # The aggregations that give some of their series as they are.
@@ -44,7 +44,7 @@ class Labels(NamedTuple):
 
     def both(self, other: Labels) -> Labels:
         """Those of series that have the same labels in both."""
-        sure = self.sure | other.sure
+        sure = self.sure | other.sure if self.sure and other.sure else self.sure or other.sure
         if self.only is not None:
             return Labels(frozenset(filter(other.may_have, self.only)), _NONE, sure)
         if other.only is not None:
@@ -71,6 +71,7 @@ class LabelFlow:
 
     def __init__(self) -> None:
         self._found: Dict[int, Labels] = {}
+        self._scalars: Dict[int, bool] = {}
 
     def of(self, node: Tree) -> Labels:
         """The labels of the series of an expression."""
@@ -79,6 +80,21 @@ class LabelFlow:
             read: Callable[[Tree], Labels] = getattr(self, f"_of_{node['type']}", lambda node: _EMPTY)
             self._found[id(node)] = read(node)
         return self._found[id(node)]
+
+    def is_scalar(self, node: Tree) -> bool:
+        """Whether an expression is a number, and not series."""
+        node = inner(node)
+        if id(node) not in self._scalars:
+            self._scalars[id(node)] = self._is_scalar(node)
+        return self._scalars[id(node)]
+
+    def _is_scalar(self, node: Tree) -> bool:
+        kind = node["type"]
+        if kind == "unaryExpr":
+            return self.is_scalar(node["expr"])
+        if kind == "binaryExpr":
+            return self.is_scalar(node["lhs"]) and self.is_scalar(node["rhs"])
+        return kind == "numberLiteral" or bool(kind == "call" and node["func"]["returnType"] == "scalar")
 
     def _of_vectorSelector(self, node: Tree) -> Labels:
         if "or_matchers" in node:
@@ -109,7 +125,7 @@ class LabelFlow:
             return left.either(right)
         if node["op"] in _SET_OPERATORS:
             return left
-        scalars = [is_scalar(node[side]) for side in ("lhs", "rhs")]
+        scalars = [self.is_scalar(node[side]) for side in ("lhs", "rhs")]
         if any(scalars):
             return right if scalars[0] else left
         matching = matching_of(node)

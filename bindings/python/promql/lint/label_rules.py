@@ -2,13 +2,14 @@
 
 from __future__ import annotations
 
+from collections import Counter
 from typing import FrozenSet, Iterator, List, Sequence, Tuple
 
 from .findings import Remark, Severity, Span, Tree
 from .label_flow import Labels
 from .subject import Subject
 from .table import rule
-from .trees import NAME, fills, inner, is_scalar, matching_of
+from .trees import NAME, fills, inner, matching_of
 
 
 def _label_spans(subject: Subject, node: Tree, labels: Sequence[str], of_group: bool = False) -> List[Span]:
@@ -21,8 +22,9 @@ def _label_spans(subject: Subject, node: Tree, labels: Sequence[str], of_group: 
 def _matched(subject: Subject) -> Iterator[Tuple[Tree, Labels, Labels]]:
     """Each operator between two vectors, with the labels of both."""
     for node in subject.of_type("binaryExpr"):
-        if not is_scalar(node["lhs"]) and not is_scalar(node["rhs"]):
-            yield node, subject.labels.of(node["lhs"]), subject.labels.of(node["rhs"])
+        labels = subject.labels
+        if not labels.is_scalar(node["lhs"]) and not labels.is_scalar(node["rhs"]):
+            yield node, labels.of(node["lhs"]), labels.of(node["rhs"])
 
 
 @rule("P401", "lost-label", Severity.WARNING)
@@ -88,8 +90,9 @@ def label_by_order(subject: Subject) -> Iterator[Remark]:
     for node in subject.calls("absent", "absent_over_time"):
         selector = inner(node["args"][0])
         matchers = selector.get("matchers", ())
+        counts = Counter(it["name"] for it in matchers)
         for label in sorted({it["name"] for it in matchers if it["type"] == "=" and it["name"] != NAME}):
-            if len([it for it in matchers if it["name"] == label]) > 1:
+            if counts[label] > 1:
                 name = node["func"]["name"]
                 message = f"whether what `{name}` gives has the label `{label}` goes by the order of its two matchers: keep one"
                 yield Remark(subject.span(selector), message)

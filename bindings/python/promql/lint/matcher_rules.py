@@ -2,6 +2,7 @@
 
 from __future__ import annotations
 
+import re
 from typing import Dict, Iterator, List, Optional, Tuple
 
 from . import patterns
@@ -11,6 +12,7 @@ from .strings import requoted
 from .subject import SeenMatcher, Subject
 from .table import rule
 
+_COMMA_AFTER = re.compile(r"\s*,\s*")
 _OF_PATTERNS = {"=~": "=", "!~": "!="}
 # A selector, and its matchers that all have to hold.
 _Group = Tuple[Tree, List[SeenMatcher]]
@@ -42,10 +44,11 @@ def _shown(matcher: SeenMatcher) -> str:
 
 def _gives_labels(subject: Subject, node: Tree) -> bool:
     """Whether the matchers of a selector say which labels the result of a call has."""
-    above = subject.parent(node)
-    while above and not (above["type"] == "call" and above["func"]["name"] in ("absent", "absent_over_time", "info")):
-        above = subject.parent(above)
-    return above is not None
+    return subject.is_below(node, _is_call_that_gives_labels)
+
+
+def _is_call_that_gives_labels(node: Tree) -> bool:
+    return node["type"] == "call" and node["func"]["name"] in ("absent", "absent_over_time", "info")
 
 
 def _written_anew(subject: Subject, node: Tree, matcher: SeenMatcher, operator: str, value: str) -> Optional[Fix]:
@@ -66,15 +69,21 @@ def _left_out(subject: Subject, node: Tree, matcher: SeenMatcher) -> Optional[Fi
     if not matcher.place or not place or not place.braces or "or_matchers" in node or _gives_labels(subject, node):
         return None
     start, end = matcher.place.whole
-    after = subject.text[end : place.braces.end]
-    before = subject.text[place.braces.start : start]
-    if after.lstrip().startswith(","):
-        end += len(after) - len(after.lstrip()[1:].lstrip())
-    elif before.rstrip().endswith(","):
-        start = place.braces.start + len(before.rstrip()) - 1
+    text, braces = subject.text, place.braces
+    if comma := _COMMA_AFTER.match(text, end, braces.end):
+        end = comma.end()
+    elif (before := _before_blanks(text, start, braces.start)) > braces.start and text[before - 1] == ",":
+        start = before - 1
     elif len(node["matchers"]) == 1 and node["name"] is not None:
-        start, end = place.braces
+        start, end = braces
     return Fix((TextEdit(start, end, ""),), ((matcher.tree, None),))
+
+
+def _before_blanks(text: str, at: int, least: int) -> int:
+    """Where the white space before a place begins."""
+    while at > least and text[at - 1].isspace():
+        at -= 1
+    return at
 
 
 @rule("P101", "pattern-of-go", Severity.ERROR)
@@ -150,11 +159,11 @@ def matches_none(subject: Subject) -> Iterator[Remark]:
             yield Remark(_span(subject, node, matcher), f"`{_shown(matcher)}` matches no series")
 
 
-def _matches(matcher: SeenMatcher, value: str) -> Optional[bool]:
+def _matches(subject: Subject, matcher: SeenMatcher, value: str) -> Optional[bool]:
     """Whether a value matches, where that can be told."""
     if matcher.operator in ("=", "!="):
         return (matcher.value == value) == (matcher.operator == "=")
-    found = patterns.matches(matcher.value, value)
+    found = patterns.matches(matcher.value, value) if subject.compares_patterns else None
     return None if found is None else found == (matcher.operator == "=~")
 
 
@@ -175,7 +184,7 @@ def matchers_exclude_each_other(subject: Subject) -> Iterator[Remark]:
     """Two matchers of a selector that no series matches both."""
     for node, equal, others in _by_label(subject):
         for other in others:
-            if _matches(other, equal.value) is False:
+            if _matches(subject, other, equal.value) is False:
                 message = f"no series matches both `{_shown(equal)}` and `{_shown(other)}`"
                 yield Remark(_span(subject, node, other), message)
 
@@ -185,7 +194,7 @@ def needless_matcher(subject: Subject) -> Iterator[Remark]:
     """A matcher that every series matches which another one of the selector lets through."""
     for node, equal, others in _by_label(subject):
         for other in others:
-            if _matches(other, equal.value):
+            if _matches(subject, other, equal.value):
                 is_alone = not (other.operator == "=~" and patterns.matches_everything(other.value))
                 message = f"`{_shown(equal)}` is there, so `{_shown(other)}` says nothing more: leave it out"
                 if is_alone:

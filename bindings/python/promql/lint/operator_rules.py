@@ -3,8 +3,9 @@
 from __future__ import annotations
 
 import math
-from typing import Iterator, Optional, Tuple
+from typing import Dict, Iterator, Optional, Set, Tuple
 
+from ..labels import children_of
 from .findings import Remark, Severity, Tree
 from .subject import Subject
 from .table import rule
@@ -29,21 +30,27 @@ def _comparisons_with_number(subject: Subject) -> Iterator[Tuple[Tree, Tree, str
 @rule("P301", "constant-comparison", Severity.WARNING)
 def constant_comparison(subject: Subject) -> Iterator[Remark]:
     """A comparison whose sides are constants."""
-    for node in filter(is_comparison, subject.nodes):
-        if _is_constant(node["lhs"]) and _is_constant(node["rhs"]) and subject.is_as_written(node):
+    comparisons = list(filter(is_comparison, subject.nodes))
+    constants = _constants(subject) if comparisons else set()
+    for node in comparisons:
+        if id(node["lhs"]) in constants and id(node["rhs"]) in constants and subject.is_as_written(node):
             yield Remark(subject.span(node), f"`{subject.shown(node)}` compares constants: it is always the same")
 
 
-def _is_constant(node: Tree) -> bool:
-    node = inner(node)
+def _constants(subject: Subject) -> Set[int]:
+    """The nodes that are constants."""
+    found: Set[int] = set()
+    # (those below a node come before it)
+    for node in reversed(subject.nodes):
+        if node["type"] == "numberLiteral" or _keeps_constants(node) and all(id(it) in found for it in children_of(node)):
+            found.add(id(node))
+    return found
+
+
+def _keeps_constants(node: Tree) -> bool:
+    """Whether a node of constants is one."""
     kind = node["type"]
-    if kind == "numberLiteral":
-        return True
-    if kind == "unaryExpr":
-        return _is_constant(node["expr"])
-    if kind == "binaryExpr":
-        return _is_constant(node["lhs"]) and _is_constant(node["rhs"])
-    return kind == "call" and node["func"]["name"] in ("vector", "pi") and all(map(_is_constant, node["args"]))
+    return kind in ("parenExpr", "unaryExpr", "binaryExpr") or kind == "call" and node["func"]["name"] in ("vector", "pi")
 
 
 @rule("P302", "equal-to-fraction", Severity.WARNING)
@@ -115,17 +122,26 @@ def bool_kept_as_filter(subject: Subject) -> Iterator[Remark]:
 @rule("P306", "no-bucket-label", Severity.ERROR)
 def no_bucket_label(subject: Subject) -> Iterator[Remark]:
     """A quantile of buckets without the label `le`."""
-    for node in subject.calls("histogram_quantile"):
+    calls = list(subject.calls("histogram_quantile"))
+    of_buckets = _of_buckets(subject) if calls else set()
+    for node in calls:
         argument = node["args"][1]
-        names = [subject.metric(it) or "" for it in _nodes_below(argument)]
-        if names and all(name.endswith("_bucket") for name in names) and not subject.labels.of(argument).may_have("le"):
+        if id(argument) in of_buckets and not subject.labels.of(argument).may_have("le"):
             message = "`histogram_quantile` needs the label `le` of the buckets, and here it is not kept: add it to `by`"
             yield Remark(subject.span(argument), message)
 
 
-def _nodes_below(tree: Tree) -> Iterator[Tree]:
-    """The selectors below a node."""
-    return iter(Subject("", tree).selectors)
+def _of_buckets(subject: Subject) -> Set[int]:
+    """The nodes below which there are selectors, and of buckets alone."""
+    found: Dict[int, Optional[bool]] = {}
+    # (those below a node come before it)
+    for node in reversed(subject.nodes):
+        if node["type"] in ("vectorSelector", "matrixSelector"):
+            found[id(node)] = (subject.metric(node) or "").endswith("_bucket")
+        else:
+            told = [it for it in (found[id(child)] for child in children_of(node)) if it is not None]
+            found[id(node)] = all(told) if told else None
+    return {node for node, is_of_buckets in found.items() if is_of_buckets}
 
 
 @rule("P307", "experimental-function", Severity.INFO, is_default=False)

@@ -9,10 +9,11 @@ import promql
 from ..files import Source
 from .file_findings import FileFinding, place_of
 from .findings import Severity
-from .table import REJECTED, RULES
+from .table import NAMES, REJECTED, RULES, UNCOMPARED
 
 _SCHEMA = "https://json.schemastore.org/sarif-2.1.0.json"
 _LEVELS = {Severity.ERROR: "error", Severity.WARNING: "warning", Severity.INFO: "note"}
+_TEXTS = {REJECTED: "The query is rejected.", UNCOMPARED: "The patterns of the query are too large to be compared with its values."}
 Json = Dict[str, Any]
 
 
@@ -40,7 +41,7 @@ def _region(source: Source, start: int, end: int) -> Json:
 
 
 def _name(code: str) -> str:
-    return "rejected" if code == REJECTED else RULES[code].name
+    return NAMES.get(code) or RULES[code].name
 
 
 def as_sarif(findings: List[Json]) -> Json:
@@ -58,8 +59,8 @@ def as_sarif(findings: List[Json]) -> Json:
 
 def _sarif_rule(code: str) -> Json:
     rule = RULES.get(code)
-    level = _LEVELS[rule.severity if rule else Severity.ERROR]
-    text = (rule.look.__doc__ or "").split("\n")[0] if rule else "The query is rejected."
+    level = _LEVELS[rule.severity if rule else Severity.ERROR if code == REJECTED else Severity.INFO]
+    text = (rule.look.__doc__ or "").split("\n")[0] if rule else _TEXTS[code]
     return {
         "id": code,
         "name": _name(code),

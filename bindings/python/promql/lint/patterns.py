@@ -20,26 +20,27 @@ _SPACED_COUNT = re.compile(r"\{(?:\s+\d+\s*|\s*\d+\s+|0\d+)(?:,\s*\d*\s*)?\}|\{\
 
 def literal(pattern: str) -> Optional[str]:
     """The only text that a pattern matches, where it is spelled in the pattern."""
-    text, at = "", 0
+    parts, at = [], 0
     while at < len(pattern):
         found = _LITERAL.match(pattern, at)
         if not found:
             return None
-        text, at = text + found[0][-1], found.end()
-    return text
+        parts.append(found[0][-1])
+        at = found.end()
+    return "".join(parts)
 
 
 def branches(pattern: str) -> Optional[List[str]]:
     """The alternatives of a pattern, or nothing where it has groups or classes."""
-    parts = [""]
+    parts: List[List[str]] = [[]]
     for piece in re.findall(r"\\.|.", pattern, re.S):
         if piece in "()[":
             return None
         if piece == "|":
-            parts.append("")
+            parts.append([])
         else:
-            parts[-1] += piece
-    return parts
+            parts[-1].append(piece)
+    return ["".join(part) for part in parts]
 
 
 def without_anchors(pattern: str) -> str:

@@ -3,7 +3,7 @@
 from __future__ import annotations
 
 import re
-from typing import Dict, FrozenSet, Iterator, List, NamedTuple, Optional, Set
+from typing import Dict, FrozenSet, Iterable, Iterator, List, NamedTuple, Optional, Set, Tuple
 
 from ..rule_documents import Kind
 from ..rule_files import RuleFile
@@ -11,11 +11,14 @@ from ..yaml_mappings import Mappings
 from ..yaml_nodes import Node
 from .subject import RuleContext
 
-_ACTION = re.compile(r"\{\{.*?\}\}", re.S)
 _LABEL = re.compile(r"\$labels\.([A-Za-z_]\w*)", re.ASCII)
-# What asks whether there is such a label.
-_ASKED = re.compile(r"\b(?:if|with|and|or|not)\b.*?\$labels\.", re.S)
+# What asks whether there is such a label, before it.
+_QUESTION = re.compile(r"\b(?:if|with|and|or|not)\b")
 _DURATION = re.compile(r"(?:(\d+)y)?(?:(\d+)w)?(?:(\d+)d)?(?:(\d+)h)?(?:(\d+)m)?(?:(\d+)s)?(?:(\d+)ms)?", re.ASCII)
+_LONGEST_DURATION = 100
+# Aliases may put a rule into groups of so many intervals.
+MOST_INTERVALS = 8
+_MOST_LABELS = 50
 _MILLISECONDS = (31_536_000_000, 604_800_000, 86_400_000, 3_600_000, 60_000, 1_000, 1)
 
 
@@ -28,29 +31,103 @@ class RulePlace(NamedTuple):
     context: RuleContext
 
 
-def rules_of(file: RuleFile) -> List[RulePlace]:
-    """The rules of a file that have queries."""
-    groups = [it for it in file.documents if it.kind is Kind.RULES]
-    found = [group for document in groups for group in _items(file.mappings, document.owner, "groups")]
-    recorded: Dict[str, int] = {}
-    for group in found:
-        interval = _interval(file.mappings, group)
-        for rule in _items(file.mappings, group, "rules") if interval else ():
-            name = _text(file.mappings, rule, "record")
+class _Named(NamedTuple):
+    """The labels that templates show, and those of which they ask."""
+
+    shown: FrozenSet[str]
+    asked: FrozenSet[str]
+
+
+class RulePlaces(NamedTuple):
+    """The rules of a file, and where those are that aliases put into groups of too many intervals."""
+
+    places: List[RulePlace]
+    cut: List[int]
+
+
+def rules_of(file: RuleFile) -> RulePlaces:
+    """The rules of a file that have queries. Each is there once for all its aliases in groups of one interval."""
+    documents = [it for it in file.documents if it.kind is Kind.RULES]
+    groups = list(_once(group for document in documents for group in _items(file.mappings, document.owner, "groups")))
+    return _Reader(file.mappings, groups).read()
+
+
+def _once(nodes: Iterable[Node]) -> Iterator[Node]:
+    seen: Set[int] = set()
+    for node in nodes:
+        if id(node) not in seen:
+            seen.add(id(node))
+            yield node
+
+
+class _Reader:
+    def __init__(self, mappings: Mappings, groups: List[Node]) -> None:
+        self._mappings = mappings
+        self._groups = groups
+        # What templates name in labels and annotations, by their node, and what those of a rule show, by both nodes.
+        self._named: Dict[int, _Named] = {}
+        self._shown: Dict[Tuple[int, int], FrozenSet[str]] = {}
+        # Where rules are that have too many intervals.
+        self._cut: Dict[int, int] = {}
+
+    def read(self) -> RulePlaces:
+        recorded: Dict[str, int] = {}
+        parts = list(self._parts())
+        for interval, rule in parts:
+            name = self._text(rule, "record") if interval else ""
             if name and interval:
                 recorded[name] = min(interval, recorded.get(name, interval))
-    return [place for group in found for place in _rules_of_group(file.mappings, group, recorded)]
+        return RulePlaces([place for part in parts for place in self._place(*part, recorded)], sorted(self._cut.values()))
 
+    def _parts(self) -> Iterator[Tuple[Optional[int], Node]]:
+        """Each rule with each interval of its groups."""
+        lists: Set[Tuple[int, Optional[int]]] = set()
+        intervals: Dict[int, Set[Optional[int]]] = {}
+        for group in self._groups:
+            interval, items = _interval(self._text(group, "interval")), self._mappings.value(group, "rules")
+            if not items or (id(items), interval) in lists:
+                continue
+            lists.add((id(items), interval))
+            for rule in _items(self._mappings, group, "rules"):
+                found = intervals.setdefault(id(rule), set())
+                if interval in found:
+                    continue
+                if len(found) == MOST_INTERVALS:
+                    self._cut[id(rule)] = rule.start
+                    continue
+                found.add(interval)
+                yield interval, rule
 
-def _rules_of_group(mappings: Mappings, group: Node, recorded: Dict[str, int]) -> Iterator[RulePlace]:
-    interval = _interval(mappings, group)
-    for rule in _items(mappings, group, "rules"):
-        query = mappings.value(rule, "expr")
+    def _place(self, interval: Optional[int], rule: Node, recorded: Dict[str, int]) -> Iterator[RulePlace]:
+        query = self._mappings.value(rule, "expr")
         if query and query.is_scalar():
-            alert, record = _text(mappings, rule, "alert"), _text(mappings, rule, "record")
-            labels = _template_labels(mappings, rule) if alert else frozenset()
-            context = RuleContext(alert, record, interval, labels, recorded)
-            yield RulePlace(rule.start, _end(rule), query.end, context)
+            alert, record = self._text(rule, "alert"), self._text(rule, "record")
+            labels = self._template_labels(rule) if alert else frozenset()
+            yield RulePlace(rule.start, _end(rule), query.end, RuleContext(alert, record, interval, labels, recorded))
+
+    def _text(self, mapping: Node, key: str) -> str:
+        value = self._mappings.value(mapping, key)
+        return str(value.value) if value and value.is_scalar() and not value.is_null() else ""
+
+    def _template_labels(self, rule: Node) -> FrozenSet[str]:
+        """The labels that templates show, but for those of which they ask first. Of more than any alert shows the first ones are taken."""
+        owners = [self._mappings.value(rule, key) for key in ("labels", "annotations")]
+        place = id(owners[0]), id(owners[1])
+        if place not in self._shown:
+            named = [self._named_in(owner) for owner in owners if owner and owner.kind == "mapping"]
+            shown: FrozenSet[str] = frozenset().union(*(it.shown for it in named)).difference(*(it.asked for it in named))
+            self._shown[place] = frozenset(sorted(shown)[:_MOST_LABELS]) if len(shown) > _MOST_LABELS else shown
+        return self._shown[place]
+
+    def _named_in(self, owner: Node) -> _Named:
+        if id(owner) not in self._named:
+            shown: Set[str] = set()
+            asked: Set[str] = set()
+            for _, value in self._mappings.entries(owner):
+                for action in _actions(str(value.value)) if value.is_scalar() else ():
+                    (asked if _asks(action) else shown).update(_LABEL.findall(action))
+            self._named[id(owner)] = _Named(frozenset(shown), frozenset(asked))
+        return self._named[id(owner)]
 
 
 def _items(mappings: Mappings, owner: Node, key: str) -> Iterator[Node]:
@@ -58,28 +135,28 @@ def _items(mappings: Mappings, owner: Node, key: str) -> Iterator[Node]:
     return (item for item in items.value if item.kind == "mapping") if items and items.kind == "sequence" else iter(())
 
 
-def _text(mappings: Mappings, mapping: Node, key: str) -> str:
-    value = mappings.value(mapping, key)
-    return str(value.value) if value and value.is_scalar() and not value.is_null() else ""
-
-
-def _interval(mappings: Mappings, group: Node) -> Optional[int]:
-    """How often a group is evaluated, in milliseconds."""
-    found = _DURATION.fullmatch(_text(mappings, group, "interval"))
+def _interval(text: str) -> Optional[int]:
+    """How often a group is evaluated, in milliseconds, by its text."""
+    found = _DURATION.fullmatch(text) if len(text) <= _LONGEST_DURATION else None
     parts = [int(count or 0) * unit for count, unit in zip(found.groups(), _MILLISECONDS)] if found else []
     return sum(parts) or None
 
 
-def _template_labels(mappings: Mappings, rule: Node) -> FrozenSet[str]:
-    """The labels that templates show, but for those of which they ask first."""
-    shown: Set[str] = set()
-    asked: Set[str] = set()
-    for key in ("labels", "annotations"):
-        owner = mappings.value(rule, key)
-        for _, value in mappings.entries(owner) if owner and owner.kind == "mapping" else ():
-            for action in _ACTION.findall(str(value.value)) if value.is_scalar() else ():
-                (asked if _ASKED.search(action) else shown).update(_LABEL.findall(action))
-    return frozenset(shown - asked)
+def _actions(template: str) -> Iterator[str]:
+    """What is between braces in a template."""
+    begin = template.find("{{")
+    while begin >= 0:
+        end = template.find("}}", begin + 2)
+        if end < 0:
+            return
+        yield template[begin : end + 2]
+        begin = template.find("{{", end + 2)
+
+
+def _asks(action: str) -> bool:
+    """Whether an action asks whether there is a label."""
+    last = action.rfind("$labels.")
+    return last >= 0 and bool(_QUESTION.search(action, 0, last))
 
 
 def _end(rule: Node) -> int:
@@ -87,7 +164,7 @@ def _end(rule: Node) -> int:
     end, todo, seen = rule.start, [rule], set()
     while todo:
         node = todo.pop()
-        if id(node) in seen:
+        if id(node) in seen or node.start < rule.start:
             continue
         seen.add(id(node))
         if node.is_scalar():

@@ -3,30 +3,28 @@
 from __future__ import annotations
 
 import re
-from typing import List, NamedTuple, Tuple
+from bisect import bisect_left
+from typing import List, Set, Tuple
 
 from ..files import Source
-from .comments import Ignored, comments_of
+from .comments import Ignored, comments_of, ignored_by
 
 _LINE = re.compile(r"[^\r\n]*(?:\r\n|\r|\n|\Z)")
-
-
-class _Silence(NamedTuple):
-    """A comment about the line that begins at a place."""
-
-    about: int
-    words: Tuple[str, ...]
 
 
 class Silences:
     """The comments of a YAML file."""
 
     def __init__(self, source: Source) -> None:
-        self._text = source.text
-        self._of_file = Ignored()
-        self._silences: List[_Silence] = []
+        self._lines = source.lines
+        self._of_file: Set[str] = set()
+        # Where the lines begin that comments are about, in their order, and the words of each.
+        self._abouts: List[int] = []
+        self._words: List[Tuple[str, ...]] = []
         if "promql:" in source.text:
             self._read(source.text)
+        order = sorted(range(len(self._abouts)), key=self._abouts.__getitem__)
+        self._abouts, self._words = [self._abouts[at] for at in order], [self._words[at] for at in order]
 
     def _read(self, text: str) -> None:
         waiting: List[Tuple[str, ...]] = []
@@ -34,21 +32,26 @@ class Silences:
             bare = line[0].strip()
             is_comment = bare.startswith("#")
             words = []
-            for is_of_file, silenced in comments_of(line[0]):
+            for is_of_file, silenced in comments_of(line[0]) if "promql:" in line[0] else ():
                 if is_of_file:
-                    self._of_file = Ignored(self._of_file.words + silenced)
+                    self._of_file.update(silenced)
                 else:
                     words.append(silenced)
             if is_comment:
                 # (in a block of YAML this may be a comment of the query, which is about the query)
                 waiting += words
-                self._silences += [_Silence(line.start(), silenced) for silenced in words]
+                self._put(line.start(), words)
             elif bare:
-                self._silences += [_Silence(line.start(), silenced) for silenced in waiting + words]
+                self._put(line.start(), waiting + words)
                 waiting = []
+
+    def _put(self, about: int, words: List[Tuple[str, ...]]) -> None:
+        """Keeps comments about the line that begins there."""
+        self._abouts += [about] * len(words)
+        self._words += words
 
     def between(self, start: int, end: int) -> Ignored:
         """What is silenced in the lines of this part of the file."""
-        begin = max(self._text.rfind("\n", 0, start), self._text.rfind("\r", 0, start)) + 1
-        words = [word for it in self._silences if begin <= it.about < max(end, start + 1) for word in it.words]
-        return Ignored((*self._of_file.words, *words))
+        first = bisect_left(self._abouts, self._lines.begin(start))
+        last = bisect_left(self._abouts, max(end, start + 1))
+        return ignored_by([*self._of_file, *(word for words in self._words[first:last] for word in words)])

@@ -11,7 +11,6 @@ from .subject import Subject
 from .table import rule
 
 _WORD = re.compile(r"[\w:]")
-_ENDS_WORD = re.compile(r"[\w:]\Z")
 # What is one thing without parentheses.
 _PRIMARY = ("parenExpr", "numberLiteral", "stringLiteral", "vectorSelector", "matrixSelector", "call", "aggregation", "subquery")
 
@@ -33,11 +32,18 @@ def _without(query: str, span: Span) -> Tuple[TextEdit, ...]:
     start, end = span
     first, last = start + 1, end - 1
     if "#" not in query:
-        first += len(query[first:last]) - len(query[first:last].lstrip())
-        last -= len(query[first:last]) - len(query[first:last].rstrip())
-    before = " " if _ENDS_WORD.search(query, 0, start) and _WORD.match(query, first) else ""
-    after = " " if _ENDS_WORD.search(query, 0, last) and _WORD.match(query, end) else ""
+        while first < last and query[first].isspace():
+            first += 1
+        while first < last and query[last - 1].isspace():
+            last -= 1
+    before = " " if _is_word(query, start - 1) and _is_word(query, first) else ""
+    after = " " if _is_word(query, last - 1) and _is_word(query, end) else ""
     return TextEdit(start, first, before), TextEdit(last, end, after)
+
+
+def _is_word(query: str, at: int) -> bool:
+    """Whether a character of a word is there."""
+    return 0 <= at < len(query) and bool(_WORD.match(query[at]))
 
 
 def _why_needless(subject: Subject, node: Tree) -> Optional[str]:

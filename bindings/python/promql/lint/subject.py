@@ -4,7 +4,7 @@ from __future__ import annotations
 
 from dataclasses import dataclass, field
 from functools import cached_property
-from typing import Callable, Dict, FrozenSet, Iterator, List, Mapping, NamedTuple, Optional, Sequence
+from typing import Callable, Dict, FrozenSet, Iterator, List, Mapping, NamedTuple, Optional, Sequence, Set, Tuple
 
 from ..labels import children_of
 from .findings import Span, Tree
@@ -12,8 +12,11 @@ from .label_flow import LabelFlow
 from .places import MatcherPlace, NodePlace, places_of
 from .trees import NAME
 
-# Of a text in a message.
+# Of a text in a message, and what is looked at for that.
 _LONGEST = 60
+_LONGEST_SHOWN = 1_000
+# Characters of the patterns of a query, times those of the values that each is held against.
+MOST_COMPARED = 1_000_000
 
 
 @dataclass(frozen=True)
@@ -29,6 +32,11 @@ class RuleContext:
     template_labels: FrozenSet[str] = frozenset()
     # The metrics that this file records in groups with an interval, and the interval.
     recorded: Mapping[str, int] = field(default_factory=dict)
+
+    @property
+    def key(self) -> Tuple[bool, Optional[int], FrozenSet[str]]:
+        """What the rules ask for, but for what is recorded."""
+        return bool(self.alert), self.interval, self.template_labels
 
 
 IsWritten = Callable[[str], bool]
@@ -64,6 +72,8 @@ class Subject:
         # Whether a text of the query is as somebody wrote it, and not what stands there for a variable.
         self.is_written = is_written
         self._groups: Dict[int, List[List[SeenMatcher]]] = {}
+        # What is below the nodes of a kind.
+        self._below: Dict[Callable[[Tree], bool], Set[int]] = {}
 
     @property
     def whole(self) -> Span:
@@ -129,10 +139,36 @@ class Subject:
     def parent(self, node: Tree) -> Optional[Tree]:
         return self._parents.get(id(node))
 
+    def is_below(self, node: Tree, is_meant: Callable[[Tree], bool]) -> bool:
+        """Whether a node of this kind is anywhere above a node."""
+        if is_meant not in self._below:
+            self._below[is_meant] = self._all_below(is_meant)
+        return id(node) in self._below[is_meant]
+
+    def _all_below(self, is_meant: Callable[[Tree], bool]) -> Set[int]:
+        found: Set[int] = set()
+        for node in self.nodes:
+            if id(node) in found or is_meant(node):
+                found.update(map(id, children_of(node)))
+        return found
+
+    @cached_property
+    def compares_patterns(self) -> bool:
+        """Whether patterns are held against the values of other matchers, which they are not where these are large together."""
+        steps = 0
+        for node in self.selectors:
+            for group in self.matcher_groups(node):
+                lengths: Dict[str, int] = {}
+                for it in group:
+                    if it.operator == "=":
+                        lengths.setdefault(it.name, len(it.value))
+                steps += sum(len(it.value) * lengths.get(it.name, 0) for it in group if it.operator in ("=~", "!~"))
+        return steps <= MOST_COMPARED
+
     def shown(self, node: Tree) -> str:
         """The text of a node, on one line and cut off where it is long."""
         span = self.span(node)
-        text = " ".join(self.text[span.start : span.end].split())
+        text = " ".join(self.text[span.start : min(span.end, span.start + _LONGEST_SHOWN)].split())
         return text if len(text) <= _LONGEST else text[: _LONGEST - 1] + "…"
 
     def calls(self, *names: str) -> Iterator[Tree]:

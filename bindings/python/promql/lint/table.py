@@ -23,8 +23,9 @@ class Rule(NamedTuple):
 
 
 RULES: Dict[str, Rule] = {}
-# What is no rule of its own: the library rejects the query.
-REJECTED = "P001"
+# What is no rule of its own: the library rejects the query; its patterns and values are too large together to be compared.
+REJECTED, UNCOMPARED = "P001", "P002"
+NAMES = {REJECTED: "rejected", UNCOMPARED: "not-compared"}
 
 
 def rule(code: str, name: str, severity: Severity, is_default: bool = True) -> Callable[[Look], Look]:
@@ -39,7 +40,7 @@ def rule(code: str, name: str, severity: Severity, is_default: bool = True) -> C
 
 
 def known_codes() -> List[str]:
-    return sorted([REJECTED, *RULES])
+    return sorted([*NAMES, *RULES])
 
 
 class Selection(NamedTuple):
@@ -53,7 +54,7 @@ class Selection(NamedTuple):
             return False
         if self.selected:
             return any(is_meant(code, word) for word in self.selected)
-        return code == REJECTED or RULES[code].is_default
+        return code in NAMES or RULES[code].is_default
 
     def rules(self) -> Tuple[Rule, ...]:
         return _selected(self)

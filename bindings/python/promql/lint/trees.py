@@ -47,14 +47,3 @@ def matching_of(node: Tree) -> Tree:
 def fills(node: Tree) -> bool:
     """Whether a side of an operator has values where the other has series."""
     return any(value is not None for value in matching_of(node)["fillValues"].values())
-
-
-def is_scalar(node: Tree) -> bool:
-    """Whether an expression is a number, and not series."""
-    node = inner(node)
-    kind = node["type"]
-    if kind == "unaryExpr":
-        return is_scalar(node["expr"])
-    if kind == "binaryExpr":
-        return is_scalar(node["lhs"]) and is_scalar(node["rhs"])
-    return kind == "numberLiteral" or bool(kind == "call" and node["func"]["returnType"] == "scalar")

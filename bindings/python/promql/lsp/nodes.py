@@ -8,7 +8,21 @@ from __future__ import annotations
 from functools import lru_cache
 from typing import Callable, Dict, Iterator, List, NamedTuple, Optional, Tuple
 
-from .tokens import AGGREGATOR, COMMENT, DURATION, ERROR, KEYWORD, NAME, NUMBER, SIGN, STRING, WORD_OPERATOR, Token, tokens_of
+from .tokens import (
+    AGGREGATOR,
+    COMMENT,
+    DURATION,
+    ERROR,
+    KEYWORD,
+    LONGEST,
+    NAME,
+    NUMBER,
+    SIGN,
+    STRING,
+    WORD_OPERATOR,
+    Token,
+    tokens_of,
+)
 
 # A query that is nested more deeply has no nodes here.
 _MOST_LEVELS = 100
@@ -334,9 +348,13 @@ class _Reader:
         return self._at >= len(self._tokens)
 
 
-@lru_cache(maxsize=32)
 def nodes_of(text: str) -> Tuple[Node, ...]:
-    """The outermost nodes of a query: one where it is accepted."""
+    """The outermost nodes of a query: one where it is accepted; none where it is longer than a query may be."""
+    return _nodes_of(text) if len(text) <= LONGEST else ()
+
+
+@lru_cache(maxsize=32)
+def _nodes_of(text: str) -> Tuple[Node, ...]:
     reader = _Reader([token for token in tokens_of(text) if token.kind != COMMENT])
     nodes: List[Node] = []
     try:

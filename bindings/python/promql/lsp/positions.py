@@ -3,12 +3,11 @@
 from __future__ import annotations
 
 import re
-from bisect import bisect_right
-from typing import Any, Dict, List, Tuple
+from typing import Any, Dict, Tuple
 
+from ..line_index import LineIndex
 from .messages import INVALID_PARAMS, ProtocolError
 
-_BREAK = re.compile(r"\r\n|\r|\n")
 _WIDE = re.compile("[\U00010000-\U0010ffff]")
 
 Range = Dict[str, Dict[str, int]]
@@ -19,23 +18,20 @@ class Lines:
 
     def __init__(self, text: str) -> None:
         self.text = text
-        breaks = [found.span() for found in _BREAK.finditer(text)]
-        self._begins: List[int] = [0, *(end for _, end in breaks)]
-        self._ends: List[int] = [*(begin for begin, _ in breaks), len(text)]
+        self._index = LineIndex(text)
         # (most texts have no character of two units, and then units are characters)
         self._is_narrow = text.isascii() or not _WIDE.search(text)
 
     def line_begin(self, offset: int) -> int:
         """Where the line of a character begins."""
-        return self._begins[bisect_right(self._begins, offset) - 1]
+        return self._index.begin(offset)
 
     def point(self, offset: int) -> Tuple[int, int]:
         """The line of a character, and the UTF-16 units before it there."""
         offset = min(max(offset, 0), len(self.text))
-        number = bisect_right(self._begins, offset) - 1
-        begin = self._begins[number]
-        end = min(offset, self._ends[number])
-        return number, end - begin if self._is_narrow else units(self.text[begin:end])
+        begin = self._index.begin(offset)
+        end = self._index.end(begin, offset)
+        return self._index.line(offset), end - begin if self._is_narrow else units(self.text[begin:end])
 
     def position(self, offset: int) -> Dict[str, int]:
         line, character = self.point(offset)
@@ -47,9 +43,8 @@ class Lines:
     def offset(self, position: Any) -> int:
         """The offset of a position. One past a line's end is the end of that line, one past the last line the text's end."""
         line, character = whole(position, "line"), whole(position, "character")
-        if line >= len(self._begins):
-            return len(self.text)
-        begin, end = self._begins[line], self._ends[line]
+        begin = self._index.line_begin(line)
+        end = self._index.end(begin, len(self.text))
         if self._is_narrow:
             return min(begin + character, end)
         at = begin

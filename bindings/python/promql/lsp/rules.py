@@ -38,7 +38,7 @@ class PlacedQuery:
         self.is_line = offsets[len(text)] - offsets[0] == len(text) and "\n" not in text and "\r" not in text
         self.start = offsets[0]
         self.end = offsets[len(text)]
-        if self.is_line:
+        if self.is_line or isinstance(offsets, range) and offsets.step == 1:
             self._runs = [(0, self.start)]
         else:
             self._runs = list(_runs(offsets[: len(text)])) or [(0, self.start)]
@@ -165,7 +165,7 @@ def _end(rule: Node) -> Tuple[int, bool]:
 
 
 def _rule(file: RuleFile, node: Node, end: int, is_whole: bool, queries: List[PlacedQuery], text: str) -> Rule:
-    begin = max(text.rfind("\n", 0, node.start), text.rfind("\r", 0, node.start)) + 1
+    begin = file.source.lines.begin(node.start)
     is_alone = is_whole and text[begin : node.start].strip(" ") == "-" and not node.style
     record, alert = file.value(node, "record"), file.value(node, "alert")
     name, place = "", (0, 0)
@@ -217,7 +217,7 @@ def problems_of(text: str, lints: bool = False) -> Tuple[Optional[List[Rule]], L
         return None, [_unread(text, str(error))] if _GROUPS.search(text) else []
     if not file.is_known:
         return rules_of(file), []
-    found = list(_query_problems(file.queries))
+    found = _problems(file.checker.faults(file.queries), ERROR)
     faults = list(file.faults)
     warnings: List[Fault] = []
     try:
@@ -233,16 +233,6 @@ def problems_of(text: str, lints: bool = False) -> Tuple[Optional[List[Rule]], L
 
 def _problems(faults: Iterable[Fault], severity: int) -> List[Problem]:
     return [Problem(fault.start, fault.end, severity, fault.message) for fault in faults]
-
-
-def _query_problems(queries: List[Query]) -> Iterator[Problem]:
-    for query in queries:
-        try:
-            if not query.skipped:
-                promql.check(query.text)
-        except ValueError as error:
-            fault = query.rejected(error)
-            yield Problem(fault.start, fault.end, ERROR, fault.message)
 
 
 def _unread(text: str, message: str) -> Problem:

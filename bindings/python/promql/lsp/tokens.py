@@ -104,11 +104,13 @@ _KINDS = {
 
 
 # (few: those of a long query that is typed in are large)
-@lru_cache(maxsize=32)
 def tokens_of(text: str) -> Tuple[Token, ...]:
     """The tokens of a text, with its comments; none where it is longer than a query may be."""
-    if len(text) > LONGEST:
-        return ()
+    return _tokens_of(text) if len(text) <= LONGEST else ()
+
+
+@lru_cache(maxsize=32)
+def _tokens_of(text: str) -> Tuple[Token, ...]:
     found: List[Token] = []
     mode, at = _OUTSIDE, 0
     while at < len(text):

@@ -1,0 +1,61 @@
+"""What was found in queries that were looked at before: in a file that is read again, or in many files, few are new."""
+
+from __future__ import annotations
+
+from typing import Any, Callable, Dict, List, Mapping, Tuple
+
+import promql
+
+from . import look_at
+from .findings import Finding
+from .subject import IsWritten, RuleContext, always
+from .table import Selection
+
+# Characters of the queries of which is known what was found in them, with so many more for each finding.
+_MOST_KEPT, _FINDING = 8_388_608, 500
+
+
+class KnownLooks:
+    """Looks at queries, each once for all rules of which the linter knows the same."""
+
+    def __init__(self) -> None:
+        self._recorded: Mapping[str, int] = {}
+        self._known: Dict[Tuple[Any, ...], List[Finding]] = {}
+        self._kept = 0
+
+    def look_at(
+        self,
+        query: str,
+        selection: Selection,
+        context: RuleContext,
+        is_written: IsWritten,
+        has_fixes: bool,
+        explains: Callable[[promql.QueryError], bool],
+    ) -> List[Finding]:
+        """As `look_at` of the linter does. The changes that a fix means to the tree are not kept."""
+        if is_written is not always:
+            # (what stands for a variable may be another variable elsewhere)
+            return look_at(query, selection, context, is_written, has_fixes, explains)
+        if context.recorded is not self._recorded:
+            self._forget(context.recorded)
+        key = (query, selection, has_fixes, *context.key)
+        if key not in self._known:
+            found = [_without_changes(it) for it in look_at(query, selection, context, is_written, has_fixes, explains)]
+            self._kept += len(query) + _FINDING * (1 + len(found))
+            if self._kept > _MOST_KEPT:
+                self._known, self._kept = {}, len(query) + _FINDING * (1 + len(found))
+            self._known[key] = found
+        return self._known[key]
+
+    def _forget(self, recorded: Mapping[str, int]) -> None:
+        """Forgets what was found where other metrics are recorded than before."""
+        if recorded != self._recorded:
+            self._known, self._kept = {}, 0
+        self._recorded = recorded
+
+
+def _without_changes(finding: Finding) -> Finding:
+    return finding._replace(fix=finding.fix._replace(changes=())) if finding.fix else finding
+
+
+LOOKS = KnownLooks()

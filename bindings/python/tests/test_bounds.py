@@ -1,0 +1,220 @@
+"""Tests of what the tools for files take at most: by time, by counts of what is read, and by what they say of what is over a bound."""
+
+import json
+import time
+import unittest
+from pathlib import Path
+from tempfile import TemporaryDirectory
+from unittest import mock
+
+import promql
+from command_line import run
+from dear_queries import DEAR_QUERIES
+from promql import checked_queries
+from promql.checked_queries import QueryChecker, pattern_size
+from promql.dashboards import Dashboard
+from promql.files import Fault, Source
+from promql.line_index import LineIndex
+from promql.lint import fix, fixes, lint
+from promql.lint.file_findings import MOST_FINDINGS
+
+try:
+    import ruamel.yaml  # noqa: F401
+except ImportError as error:
+    raise unittest.SkipTest("there is no ruamel.yaml here") from error
+
+# Each of these took from three seconds to many minutes where a rule walked from each node, or read the query for each finding. It is
+# processor time, ten times of what a query takes on a slow machine.
+SECONDS = 10
+RULE = "groups:\n- name: a\n  rules:\n"
+
+
+def seconds_of(function, *arguments, **options):
+    begin = time.process_time()
+    function(*arguments, **options)
+    return time.process_time() - begin
+
+
+class LongQueries(unittest.TestCase):
+    def test_lint(self):
+        for name, query in DEAR_QUERIES.items():
+            with self.subTest(name=name):
+                promql.check(query)
+                self.assertLess(seconds_of(lint, query, select=["all"]), SECONDS)
+
+    def test_fix(self):
+        """A query is read so often at most to check its fixes, however many there are."""
+        for name in ("a flat chain", "parentheses", "deep parentheses", "equal matchers", "patterns of one text", "selectors", "empty braces"):
+            with self.subTest(name=name):
+                self.assertLess(seconds_of(fix, DEAR_QUERIES[name]), SECONDS)
+                with mock.patch.object(promql, "parse", wraps=promql.parse) as parse:
+                    lint(DEAR_QUERIES[name])
+                self.assertLessEqual(parse.call_count, 3)
+                fixed = fix(DEAR_QUERIES[name])
+                self.assertEqual([it.code for it in lint(fixed) if it.fix], [])
+
+    def test_wrong_fixes(self):
+        """Fixes that are wrong are found by halves, and the others are kept."""
+        query = "+".join(["(a)"] * 100)
+        wrong = fixes.edited_query
+
+        def edited(text, edits):
+            edited_text = wrong(text, edits)
+            # (the third name is lost where its parentheses are taken away)
+            return edited_text.replace("+a+", "+b+", 1) if any(edit.start == 8 for edit in edits) else edited_text
+
+        with mock.patch.object(fixes, "edited_query", edited):
+            found = lint(query, select=["P601"])
+        self.assertEqual([number for number, it in enumerate(found) if not it.fix], [2])
+
+
+class Patterns(unittest.TestCase):
+    def test_size(self):
+        for query, size in (("up", 0), ('{a=~"b"}', 7), ('{a=~"b",c!~"dddd"} + ', 17), ('{a="b"} "=~"', 0), ('a=~"', 0), ("{a=~'\udc80'}", 0)):
+            self.assertEqual(pattern_size(query), size, query)
+        limits = {"max_len": 32_768, "max_patterns": 16_000, "max_output": 4_194_304, "max_tree": 4_194_304}
+        self.assertEqual(promql.limits(), limits)
+
+    def test_budget(self):
+        checker = QueryChecker(20)
+        self.assertTrue(checker.admits('{a=~"b"}'))
+        self.assertTrue(checker.admits('{a=~"b"}'))
+        self.assertTrue(checker.admits('{a=~"c"}'))
+        self.assertFalse(checker.admits('{a=~"d"}'))
+        # (what is over the bound stays so, and what was counted or has no pattern does not)
+        self.assertFalse(checker.admits('{a=~""}'))
+        self.assertTrue(checker.admits('{a=~"c"}') and checker.admits("up"))
+        # (patterns that the library does not compile count for nothing)
+        self.assertTrue(QueryChecker(20).admits('{a=~"' + "x{900}" * 40 + '"}'))
+
+    def test_once(self):
+        """A text is asked about once in a run."""
+        with mock.patch.object(promql, "check", wraps=promql.check) as check:
+            errors = [QueryChecker.error("once_alone(1)") for _ in range(3)]
+        self.assertEqual(check.call_count, 1)
+        self.assertEqual({str(error) for error in errors}, {"1:1: unknown function with name 'once_alone'"})
+
+    def test_kept_verdicts(self):
+        """What is known of texts is forgotten where it is too much."""
+        with mock.patch.object(checked_queries, "_MOST_KEPT", 10_000):
+            for number in range(100):
+                QueryChecker.error(f"up > {number}")
+        self.assertLessEqual(len(checked_queries._VERDICTS._known), 11)
+
+    def test_explanations(self):
+        """What was expected is said as long as it is not too dear: each time that a query is read for it counts."""
+        dear = "{" + ",".join(f'l{number}=~"(?i)\\\\pL"' for number in range(25)) + "} b"
+        board = Dashboard(Source("a.json", json.dumps({"targets": [{"expr": dear}] * 9}), ""))
+        faults = QueryChecker(2 * pattern_size(dear)).faults(board.queries)
+        told = [fault.message.startswith("unexpected identifier") for fault in faults]
+        self.assertEqual(told, [True] * 2 + [False] * 7)
+        self.assertEqual(faults[-1].message, "invalid promql query")
+
+    def test_files(self):
+        """Files with more patterns than they may have: it is told where, and of how many queries, by each command."""
+        queries = [f'up{{a=~"b{number}.+"}}' for number in range(5)]
+        with TemporaryDirectory() as folder:
+            rules, board = Path(folder, "a.yml"), Path(folder, "a.json")
+            rules.write_text(RULE + "".join(f"  - {{record: 'a:{number}', expr: '{query}'}}\n" for number, query in enumerate([*queries, "up ==", queries[0]])))
+            board.write_text(json.dumps({"targets": [{"expr": query} for query in [*queries, "up ==", queries[0]]]}))
+            size = sum(map(pattern_size, queries))
+            for path in (rules, board):
+                bound = f"--max-file-patterns={size - 5}"
+                for command, status in (("check", 1), ("lint", 2), ("format", 2)):
+                    with self.subTest(path=path, command=command):
+                        ran = run(command, bound, path)
+                        self.assertEqual(ran.status, status)
+                        self.assertRegex(ran.out + ran.err, r"a\.\w+:\d+:\d+: the patterns of the file are too large together: \d+, at most \d+; this query is not")
+                        self.assertRegex(ran.out + ran.err, r"a\.\w+:\d+:\d+: (error P001: )?unexpected end of query")
+                        self.assertNotIn("too large", "".join(run(command, path)[1:]))
+            self.assertIn("and 1 more with patterns are not", run("check", f"--max-file-patterns={size - 12}", rules).err)
+
+    def test_trials(self):
+        """Readings of variables are tried so often in a dashboard."""
+        expr = "(a + $x $y $z) + " + "+".join(["b"] * 200)
+        board = json.dumps({"targets": [{"expr": f"{expr} + {number}"} for number in range(400)]})
+        self.assertLess(seconds_of(Dashboard, Source("a.json", board, "")), 3 * SECONDS)
+
+
+class Aliases(unittest.TestCase):
+    def lint(self, text, *options):
+        with TemporaryDirectory() as folder:
+            path = Path(folder, "a.yml")
+            path.write_text(text)
+            begin = time.process_time()
+            ran = run("lint", *options, path)
+            self.assertLess(time.process_time() - begin, SECONDS)
+            return ran
+
+    def test_rules(self):
+        """A rule is looked at once for all its aliases in groups of one interval."""
+        text = "r: &r [&q {alert: A, expr: (up)}" + ", *q" * 999 + "]\ng: &g {name: a, rules: *r}\ngroups: [*g" + ", *g" * 800 + "]\n"
+        ran = self.lint(text)
+        self.assertEqual((ran.status, ran.out.count(" P601: ")), (1, 1))
+        self.assertEqual(self.lint(text, "--fix").status, 1)
+
+    def test_intervals(self):
+        groups = "".join(f"- {{name: g{number}, interval: {number + 1}s, rules: *r}}\n" for number in range(500))
+        ran = self.lint("r: &r [&q {alert: A, expr: (up)}" + ", *q" * 400 + "]\ngroups:\n" + groups)
+        self.assertEqual((ran.status, ran.out.count(" P601: ")), (2, 1))
+        self.assertIn(":1:8: its aliases are in groups of more than 8 intervals: the rule is looked at with 8 of these", ran.err)
+
+    def test_contexts(self):
+        """A query that is in many alerts, whose templates differ."""
+        rules = "".join(f"  - {{alert: A{number}, expr: *q, annotations: {{a: '{{{{ $labels.l{number} }}}}'}}}}\n" for number in range(2_000))
+        ran = self.lint("q: &q '" + "+".join(["up"] * 400) + "'\n" + RULE + rules)
+        self.assertEqual(ran.status, 2)
+        self.assertIn(":1:8: an alias has it in 2,000 rules that differ: it is looked at for 16 of these", ran.err)
+
+    def test_templates(self):
+        """Alerts that share annotations with many labels, and annotations that have braces or questions alone."""
+        shown = ",".join(f"l{number}: '{{{{ $labels.l{number} }}}}'" for number in range(3_000))
+        rules = "".join(f"  - {{alert: A{number}, expr: up > {number}, annotations: *a}}\n" for number in range(2_000))
+        self.assertEqual(self.lint(f"a: &a {{{shown}}}\n{RULE}{rules}").status, 0)
+        for text in ("{{" * 250_000, "{{" + " if" * 150_000 + "}}"):
+            self.assertEqual(self.lint(RULE + f"  - {{alert: A, expr: up > 1, annotations: {{a: '{text}'}}}}\n").status, 0)
+
+    def test_silences(self):
+        text = "# promql: ignore-file P101\n" * 2_000 + RULE + "  # promql: ignore P602\n  - {expr: (up), record: a}\n" * 3_000
+        ran = self.lint(text)
+        self.assertEqual((ran.status, ran.out.count(" P601: ")), (1, 3_000))
+
+
+class Findings(unittest.TestCase):
+    def test_many(self):
+        """After so many findings a file is not looked at further."""
+        query = "+".join(["(a)"] * 400)
+        with TemporaryDirectory() as folder:
+            path = Path(folder, "a.yml")
+            path.write_text(RULE + "".join(f"  - {{record: a, expr: '{query}'}}\n" for _ in range(40)))
+            ran = run("lint", path)
+            self.assertEqual((ran.status, ran.out.count(" P601: ")), (2, 5_200))
+            self.assertIn(f":17:24: not looked at from here on: there are more than {MOST_FINDINGS:,} findings before", ran.err)
+
+    def test_json(self):
+        """Changed queries are left out of a report where they are too long together."""
+        with TemporaryDirectory() as folder:
+            path = Path(folder, "a.promql.json")
+            path.write_text(json.dumps({"targets": [{"expr": DEAR_QUERIES["deep parentheses"].replace("a", "b")}]}))
+            ran = run("lint", "--select=P601", "--output=json", path)
+        fixes_found = [it["fix"] for it in json.loads(ran.out) if it["fix"]]
+        queries = [it["query"] for it in fixes_found]
+        self.assertLess(len(ran.out), 30_000_000)
+        self.assertTrue(queries[0] and queries[-1] is None and fixes_found[-1]["edits"])
+
+
+class Lines(unittest.TestCase):
+    def test_memory(self):
+        """Eight million lines are told apart with little memory and time."""
+        text = "\n" * 8_000_000
+        begin = time.process_time()
+        index = LineIndex(text)
+        self.assertEqual([index.place(at) for at in (0, 5, 7_999_999)], [(1, 1), (6, 1), (8_000_000, 1)])
+        self.assertEqual((index.line_begin(4_000_000), index.line_begin(9_000_000)), (4_000_000, 8_000_000))
+        self.assertLess(time.process_time() - begin, SECONDS)
+        source = Source("a", "\r\n" * 20_000 + "ab\rc", "")
+        self.assertEqual(source.located(Fault(40_003, 40_003, "x")), "a:20002:1: x")
+
+
+if __name__ == "__main__":
+    unittest.main()
