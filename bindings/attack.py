@@ -137,6 +137,15 @@ LARGE_PATTERNS = {
     "249 kB of groups with names": ("{a=~`" + named_groups(248_900) + "`}", TOO_LONG),
 }
 
+# Queries of which it is dear to tell what was expected, since their beginnings are read once for each kind of token: what was
+# expected, and how many seconds that may take, ten times what it takes.
+REJECTED = {
+    "26 patterns of other letters, and no right side": ("{" + r"a=~`(?i)\PL`," * 26 + "} +", "expression", 0.2),
+    "8,190 sums, and no right side": ("f(" + "a+a," * 8_190 + "a)+", "expression", 2.5),
+    "16,000 arguments, and a number": ("f(" + "1," * 16_000 + "1 1)", "operator", 2.5),
+    "2,000 matchers, and a name": ("{" + 'a=~"",' * 2_000 + 'a="" a}', '"}"', 2.5),
+}
+
 
 def program_runs(query, **bounds):
     """The ends of each program on this query, by their names, without the place that promql_check shows."""
@@ -179,10 +188,26 @@ def attack_by_queries():
                 said = TOO_MANY_LEVELS if message == TOO_DEEP and program == "promql_check" else message
                 is_so = ran.status == status and ran.err.startswith(said)
             check(f"{name}, {program}", is_so, (ran.status, ran.err))
+    attack_by_rejected_queries()
     if not knows_limits():
         print("not tried: queries of large patterns: the programs of dist/ know no --max-patterns")
         return
     attack_by_patterns()
+
+
+def attack_by_rejected_queries():
+    """Each says what was expected, in promql_check, in a batch and in the library, which a process calls."""
+    explain = [sys.executable, "-c", EXPLAINING]
+    for name, (query, expected, seconds) in REJECTED.items():
+        for words, given in (
+            ([DIST / "promql_check"], query),
+            ([DIST / "promql_batch", "line"], json.dumps(query) + "\n"),
+            (explain, query),
+        ):
+            ran = run(words, given, seconds=math.ceil(seconds))
+            told = json.dumps(expected)[1:-1] if words[0] == DIST / "promql_batch" else expected
+            is_so = ran.status == 4 and told in ran.out + ran.err and ran.seconds < seconds + (0.2 if words is explain else 0)
+            check(f"{name}, {Path(words[0]).name}", is_so, (ran.status, ran.out[-300:], ran.err[-300:], ran.seconds))
 
 
 def attack_by_patterns():
@@ -198,7 +223,76 @@ def attack_by_patterns():
             check(f"{name}, {program}", is_so, (ran.status, ran.err, ran.seconds, allowed))
 
 
+# ---- trees that are given as JSON
+
+# A process that prints the tree whose JSON form is on its standard input, by the library and as a node with one matcher so often, and
+# prints the seconds of the longer call with what both say.
+TREES = """
+import sys, time, promql, promql.tree as tree
+form, count, said, longest = sys.stdin.read(), int(sys.argv[1]), [], 0.0
+def node():
+    return str(tree.Selector("a", (tree.Matcher("b", "=~", r"\\w{720}"),) * count))
+for call in (lambda: promql._tree_text(promql._caller.print_tree(form, 0, 0, 0, 0)), node):
+    begun = time.process_time()
+    try:
+        said.append(call())
+    except (promql.Error, tree.NodeError) as error:
+        said.append(str(error.__cause__ or error))
+    longest = max(longest, time.process_time() - begun)
+print(longest, *said, sep="\\n")
+"""
+# What a tree of others may take: processor seconds. One of these patterns alone takes longer, in all of a process.
+TREE_SECONDS = 1.0
+# As many matchers with a dear pattern as a form of 4,495 bytes had, once for each call.
+FORM_MATCHERS = 100
+
+
+def form_of_selector(count, pattern):
+    """The JSON form of a selector with so many matchers of a pattern."""
+    matchers_of = [{"name": "b", "type": "=~", "value": pattern}] * count
+    members = {"matchers": matchers_of, "name": "a", "offset": 0, "startOrEnd": None, "timestamp": None, "type": "vectorSelector"}
+    return json.dumps(members, separators=(",", ":"))
+
+
+def knows_tree_limits():
+    """Whether the library of dist/ has a limit of the length of a tree."""
+    return b"promql_set_max_tree" in (DIST / "libpromql.so").read_bytes()
+
+
+def attack_by_trees():
+    """Trees that are dear to compile or long: each is rejected before a pattern of it is compiled."""
+    if not knows_tree_limits():
+        print("not tried: large trees: the library of dist/ has no promql_set_max_tree")
+        return
+    forms = {
+        "a tree with a pattern of 720 letters": (form_of_selector(1, DEAR_PATTERN), TOO_LARGE),
+        f"a tree with {FORM_MATCHERS} of them": (form_of_selector(FORM_MATCHERS, DEAR_PATTERN), TOO_LARGE),
+        f"a tree with {MANY} of them": (form_of_selector(MANY, DEAR_PATTERN), TOO_LARGE),
+        f"no tree, with {MANY} of them": (json.dumps([{"type": "=~", "value": DEAR_PATTERN}] * MANY), TOO_LARGE),
+        "no tree, with them in 120 lists": ("[" * 120 + form_of_selector(MANY, DEAR_PATTERN) + "]" * 120, TOO_LARGE),
+        "5 MB of lists": ("[" + "[]," * 1_700_000 + "[]]", "tree is too long"),
+        "5 MB of no JSON": ("[" * 5_000_000, "tree is too long"),
+        "4 MB of brackets": ("[" * 4_000_000, "not JSON"),
+        "4 MB of lists": ("[" + "[]," * 1_390_000 + "[]]", "$: an object"),
+    }
+    for name, (form, said) in forms.items():
+        ran = run([sys.executable, "-c", TREES, MANY], form)
+        longest, *lines = ran.out.splitlines() or ["inf"]
+        is_so = ran.status == 0 and float(longest) < TREE_SECONDS and len(lines) == 2
+        check(name, is_so and lines[0].startswith(said) and lines[1].startswith(TOO_LARGE), (ran.status, ran.out, ran.err))
+
+
 # ---- stacks
+
+# A process that has the library explain the query on its standard input, and ends as promql_check does.
+EXPLAINING = """
+import sys, promql
+try:
+    promql.check(sys.stdin.read())
+except promql.QueryError as error:
+    print(error.message)
+    sys.exit(4)
+"""
 
 # A process that calls the library with the query on its standard input, in its first thread and in another.
 CALLS = """
@@ -427,7 +521,7 @@ def attack_page():
 
 
 def main():
-    for attack in (attack_by_queries, attack_by_stacks, attack_outputs, attack_terminals, attack_files, attack_page):
+    for attack in (attack_by_queries, attack_by_trees, attack_by_stacks, attack_outputs, attack_terminals, attack_files, attack_page):
         attack()
     return checks.end()
 

@@ -284,6 +284,8 @@ def run_python(threads):
     import promql
 
     promql.set_limits(max_len=MAX_LEN, max_patterns=MAX_PATTERNS)
+    # (a query that is not enforced has no target in a batch)
+    promql.set_target("rules")
     calls = list(all_calls())
     answers = [python_answer(it) for it in calls]
     failed = compare(calls, answers)

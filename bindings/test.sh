@@ -296,6 +296,8 @@ test_rule_files() {
         add "files with rules for Python, by $python" unit_tests "$here/python" test_rule_documents.py
         add "the linter for Python, by $python" unit_tests "$here/python" test_lint_command.py
         add "the language server with rule files, by $python" unit_tests "$here/python" test_lsp_rules.py
+        add "bounds of the tools for files, by $python" unit_tests "$here/python" test_bounds.py
+        add "files that fail, and signals, by $python" unit_tests "$here/python" test_failures.py
     fi
     has promtool 'verdicts on rule files beside those of promtool' && { promtool --version 2>&1 | grep -q 'version 2\.42\.' ||
         echo 'not tried: verdicts on rule files beside those of promtool: promtool is not of 2.42'; }
@@ -500,20 +502,29 @@ test_attacks() {
         try 'building the tests for C' build_c
         if [ -x "$work/test_shared" ]; then add 'small stacks for C, among its tests' "$work/test_shared"; fi
     fi
-    if has cargo 'small stacks for Rust'; then add 'small stacks for Rust' cargo_tests a_small_stack; fi
+    if has cargo 'trees and small stacks for Rust'; then
+        add 'small stacks for Rust' cargo_tests a_small_stack
+        add 'trees for Rust' cargo_tests --test attacks
+        add 'trees for Rust, optimized' cargo_tests --test attacks --release
+    fi
     if has go 'the proxy in Go'; then
         add 'small stacks for Go' go_tests . -run TestStacks
+        add 'trees for Go' go_tests . -run 'High|Many|Large|UTF8|Missing|BelowThemselves|FaultAbove'
+        try 'forms for Go by its fuzzer' in_go . test -run '^$' -fuzz FuzzForms -fuzztime 10000x .
         add 'the proxy in Go' go_tests ./cmd/promql-proxy/...
         try 'requests for the proxy by its fuzzer' in_go . test -run '^$' -fuzz FuzzRequests -fuzztime 20000x ./cmd/promql-proxy/internal/front
     fi
     has python3 'the page, the tools for rule files and the programs' || return
     add 'small stacks for Python' unit_tests "$here/python" test_promql.py -k Stacks
+    add 'trees for Python' unit_tests "$here/python" test_tree_attacks.py
     add 'requests to the page' unit_tests "$here/python" test_page.py -k Slow -k Requests -k Queries
     add 'dashboards' unit_tests "$here/python" test_dashboards.py -k Boards
     if python=$(python_with_yaml); then
         export python
         add 'rule files' unit_tests "$here/python" test_rule_files.py -k Checks -k Writing -k test_many_signs
         add 'names, labels and templates of rules' unit_tests "$here/python" test_rule_checks.py -k Attacks -k test_deep
+        add 'bounds of the tools for files' unit_tests "$here/python" test_bounds.py
+        add 'files that fail, and signals' unit_tests "$here/python" test_failures.py
     fi
     add 'attacks on the programs, the library, rule files and the page' in_python "$here/python" "$here/attack.py"
 }

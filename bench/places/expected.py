@@ -4,8 +4,7 @@
 usage: bench/places/expected.py PROGRAM            compares the sixth column of the rows with what is found here
        bench/places/expected.py PROGRAM --write    writes that column where it is missing
 
-PROGRAM is a promql_batch: it is asked which texts it accepts, and with which message it rejects others. Rows whose sixth column is [], since
-their patterns are large, are left out.
+PROGRAM is a promql_batch: it is asked which texts it accepts, and with which message it rejects others.
 """
 
 import json
@@ -98,7 +97,7 @@ def found_name(found: Token | None) -> str:
 def found_in_rows(judge: Judge, is_complete: bool) -> Iterator[tuple[Path, int, list[str], str]]:
     """Each row with a syntax error, or each that lacks its sixth column: its file, the number of its line, its columns, and the sixth."""
     rows = [(path, number, columns, text) for path, number, columns, text, message in rejected_rows() if message == SYNTAX]
-    rows = [row for row in rows if (row[2][5:] != ["[]"] if is_complete else len(row[2]) == 5)]
+    rows = [row for row in rows if is_complete or len(row[2]) == 5]
     texts = list(dict.fromkeys(text for *_, text in rows))
     found = dict(zip(texts, judge.run([expected_at(text) for text in texts])))
     for path, number, columns, text in rows:
