@@ -2,7 +2,8 @@
  *
  * Each call reads its query, writes a text to the start of its buffer, and says in `result` what it did; it returns the
  * status. A query is UTF-8 and need not end with a 0; no 0 is written after a text. A call keeps nothing and shares nothing
- * but the limits that promql_set_limits and promql_set_max_output set, so any thread may make any call at any time.
+ * but what promql_set_limits, promql_set_max_output, promql_set_max_tree and promql_set_target set, so any thread may make any call
+ * at any time.
  *
  *     char buffer[1024];
  *     struct promql_result result;
@@ -50,11 +51,17 @@ enum promql_named {
     PROMQL_LABEL = 1   /* a label: in matchers, and in the lists of aggregations and operators */
 };
 
+/* What reads a query that is sent on (docs/reference/programs.md, "Targets"). */
+enum promql_target {
+    PROMQL_PROMETHEUS_3 = 0, /* Prometheus, to which an escape of a byte past ASCII, as "\xc3", is a byte of a text */
+    PROMQL_RULES = 1         /* the rules of this library, to which it is a character */
+};
+
 /* The bytes of stack that a call about a query asks for: more than any query is known to need (docs/PERFORMANCE.md, "The program").
  * A thread needs more than these, for what it does itself. */
 #define PROMQL_STACK 1310720
 
-/* 0, or why the buffer does not have what was asked for. With 1 to 6, 9, 11 to 14, 16 to 18, 20 to 22 the text is the message of
+/* 0, or why the buffer does not have what was asked for. With 1 to 6, 9, 11 to 14, 16 to 18, 20 to 23 the text is the message of
  * the error. */
 enum promql_status {
     PROMQL_OK = 0,
@@ -63,27 +70,31 @@ enum promql_status {
     PROMQL_REJECTED = 4,         /* the query is rejected: the result has the place */
     PROMQL_NUMBER_TOO_WIDE = 6,  /* PROMQL_JSON, PROMQL_PLACED_JSON: a number of milliseconds is below -2^63 or above 2^64 - 1 */
     PROMQL_BUFFER_TOO_SMALL = 8, /* the text has more bytes than the buffer: `length` */
-    PROMQL_UNKNOWN_MODE = 9,     /* or a level above 512, or no kind of what is renamed */
+    PROMQL_UNKNOWN_MODE = 9,     /* or a level above 512, no kind of what is renamed, no target, or for promql_format_query a width above
+                                    65535 or an indentation above 16 */
     PROMQL_BAD_POINTER = 10,     /* a pointer is NULL though its length is not 0, a length is above PTRDIFF_MAX, or the
                                     result is NULL; there is no text */
     PROMQL_BAD_MATCHER = 11,     /* the matcher is none, or is of the metric's name, __name__ */
     PROMQL_UNFAITHFUL = 12,      /* the text that was made would not mean the query, or the tree */
     PROMQL_BARE_INFO = 13,       /* the query has info without a second argument: no matcher limits the series that it reads */
-    PROMQL_TOO_LARGE = 14,       /* the query is too long, or its patterns are too large: the result has the place, but for a tree */
+    PROMQL_TOO_LARGE = 14,       /* the query or the tree is too long, or its patterns are too large: the result has the place, but for
+                                    a tree */
     PROMQL_SMALL_STACK = 15,     /* the thread has fewer than PROMQL_STACK bytes of stack left; there is no text */
     PROMQL_LARGE_ENFORCED = 16,  /* the matcher, or the query with it or with another name, is not within the limits of a query */
     PROMQL_NOT_A_TREE = 17,      /* the JSON text is the form of no tree: the message has the place */
     PROMQL_LONG_OUTPUT = 18,     /* the text has more bytes than promql_set_max_output says */
     PROMQL_NOT_A_NAME = 20,      /* the new name is no name of a metric */
     PROMQL_METRIC_LABEL = 21,    /* the old name or the new one is __name__, which names no label but the metric */
-    PROMQL_CLASH = 22            /* both labels are in one list, and would become one */
+    PROMQL_CLASH = 22,           /* both labels are in one list, and would become one */
+    PROMQL_READ_OTHERWISE = 23   /* the target reads the query otherwise, and the result has the place, or the matcher */
 };
 
 struct promql_result {
     uint32_t status;
     size_t length; /* bytes of the text */
-    /* With PROMQL_REJECTED and PROMQL_TOO_LARGE, else 0: the part that the error is about, in bytes from 0, and empty at the query's end; and
-     * the line and the column where it begins, from 1, the column in characters. */
+    /* With PROMQL_REJECTED, PROMQL_TOO_LARGE and PROMQL_READ_OTHERWISE, else 0: the part that the error is about, in bytes from 0, and
+     * empty at the query's end; and the line and the column where it begins, from 1, the column in characters. All are 0 where the error
+     * is about a matcher or a tree. */
     size_t start;
     size_t end;
     size_t line;
@@ -122,7 +133,7 @@ uint32_t promql_collect(const char *query, size_t query_length, char *buffer, si
 uint32_t promql_places(const char *query, size_t query_length, char *buffer, size_t buffer_size,
                        struct promql_result *result);
 
-/* Checks a query. The text is empty where it is accepted. */
+/* Checks a query, also whether the target reads it otherwise (promql_set_target). The text is empty where it is accepted. */
 uint32_t promql_check(const char *query, size_t query_length, char *buffer, size_t buffer_size,
                       struct promql_result *result);
 
@@ -140,7 +151,9 @@ uint32_t promql_snippet(const char *query, size_t query_length, size_t start, si
 
 /* Prints a tree that is given as JSON, in the form of promql_print with PROMQL_JSON (docs/reference/json.md, "From JSON to a text").
  * The modes, `level` and `width` are those of promql_print. Where `parentheses` is not 0, parentheses are put where the tree needs them.
- * The text is within the limits of a query; it was read again, and means the tree. */
+ * The tree has at most as many bytes as promql_set_max_tree says, and its patterns are no larger than those of a query may be: else the
+ * status is PROMQL_TOO_LARGE, and nothing of it was compiled. The text is within the limits of a query; it was read again, and means the
+ * tree. */
 uint32_t promql_print_tree(const char *tree, size_t tree_length, uint32_t mode, uint32_t level, size_t width,
                            uint32_t parentheses, char *buffer, size_t buffer_size, struct promql_result *result);
 
@@ -151,8 +164,9 @@ uint32_t promql_print_tree(const char *tree, size_t tree_length, uint32_t mode, 
 void promql_set_limits(size_t max_len, size_t max_pattern_size);
 
 /* Lays a query out for people: comments stay, chains of operators are flat, and lines have at most `width` characters where they can
- * be broken, with indentations of `indent_width` spaces. Where `keep_spelling` is not 0, numbers, durations, strings and the order of what
- * is written stay as they are. The text was read again: it has the query's tree and its comments (docs/reference/formatting.md). */
+ * be broken, with indentations of `indent_width` spaces; at most 65535 and 16. Where `keep_spelling` is not 0, numbers, durations, strings
+ * and the order of what is written stay as they are. The text was read again: it has the query's tree and its comments
+ * (docs/reference/formatting.md). */
 uint32_t promql_format_query(const char *query, size_t query_length, size_t width, size_t indent_width, uint32_t keep_spelling,
                              char *buffer, size_t buffer_size, struct promql_result *result);
 
@@ -160,6 +174,15 @@ uint32_t promql_format_query(const char *query, size_t query_length, size_t widt
  * has at most, for each later call of the process: 4194304 before the
  * first such call. The buffer bounds what the caller keeps, and this what the library makes. */
 void promql_set_max_output(size_t bytes);
+
+/* Sets what reads the queries that promql_enforce, promql_rename and promql_format_query write and promql_check checks, for each later
+ * call of the process: an enum promql_target, PROMQL_PROMETHEUS_3 before the first such call. A query or a matcher that it reads otherwise
+ * gives PROMQL_READ_OTHERWISE. PROMQL_UNKNOWN_MODE, and nothing changes, where there is no such target. */
+uint32_t promql_set_target(uint32_t target);
+
+/* Sets how many bytes a tree that is given to promql_print_tree has at most, for each later call of the process: 4194304 before the first
+ * such call, as many as a text has at most, so that each tree that was printed as JSON is taken back. */
+void promql_set_max_tree(size_t bytes);
 
 /* The version of the library. */
 uint32_t promql_version(char *buffer, size_t buffer_size, struct promql_result *result);
