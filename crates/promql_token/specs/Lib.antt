@@ -11,6 +11,7 @@ pub mod IsFirst
 pub mod IsPast
 pub mod Laws
 pub mod Lexing
+pub mod TextTokens
 pub mod TokenScanning
 pub mod Printed
 pub mod PrintedValues

@@ -1,12 +1,14 @@
 //! Laws of the token list: the contracts of functions that do nothing.
 
 ghost use Rattle.std.specs.Prelude.{◌≡◌, ◌↔◌, ◌==◌, ℕ, false, List, [], ◌∷◌, ◌++◌, length, map, Result, Ok, Err, slice_index, string_bytes, EachIndex};
+ghost use Rattle.std.specs.List.{All};
 ghost use Rattle.std.specs.Result.{ok_prefix};
 ghost use Rattle.std.specs.Str.{IsUtf8};
 ghost use Rattle.promql_text.specs.Texts.{Text};
 ghost use Rattle.promql_text.specs.Equalities.{ClonesKeep, IsSameBy};
 ghost use Rattle.promql_token.specs.Begins as begin;
 ghost use Rattle.promql_token.specs.FaultPlaces as places;
+ghost use Rattle.promql_token.specs.TextTokens as all;
 ghost use Rattle.promql_token.specs.Trivia as trivia;
 ghost use Rattle.promql_token.specs.Ids as ids;
 ghost use Rattle.promql_token.specs.Lexing.{items, lex, pieces, start, tokens};
@@ -47,6 +49,16 @@ pub fn only_tokens()
         → (items s ≡ map (λ x. Ok x) (lists.places 0 ts) ++ Err f ∷ [])
         × (tokens s ≡ Err f)
         × ((n : ℕ) × (pieces start s ≡ map (λ t. Ok (t.1, t.2)) ts ++ Err (f.kind, n, f.ch) ∷ [])) }
+{}
+
+/// The tokens of any text are, but for its comments, those of its token list. Where it has a fault they begin with those before it.
+/// Each begins and ends between characters.
+pub fn text_tokens_are_tokens()
+    ensures whole { (s : Text) (xs ts : List Lexeme) → all.AreTextTokens s xs → lex s ≡ Ok ts
+        → all.without_comments s xs ≡ all.before_end ts }
+    ensures front { (s : Text) (xs : List Lexeme) → all.AreTextTokens s xs
+        → (rest : List Lexeme) × (all.without_comments s xs ≡ all.before_end (ok_prefix (items s)) ++ rest) }
+    ensures places { (s : Text) (xs : List Lexeme) → IsUtf8 s → all.AreTextTokens s xs → All (trivia.IsPlaced s) xs }
 {}
 
 /// What a text begins with in a state is a token, or a fault, exactly if that may begin there.

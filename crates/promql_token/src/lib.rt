@@ -9,12 +9,14 @@
 
 ghost use Rattle.promql_token.specs.Lexing as spec;
 
+pub use any_text::text_tokens;
 pub use fault::{LexError, LexFault, LexFaultKind};
 pub use ids::{TokenId, get_keyword_token, token_display};
 pub use lexeme::Lexeme;
 use std::alloc::Global;
 pub use token::{Token, TokenType, is_label};
 
+mod any_text;
 mod class;
 pub mod cursor;
 pub mod fault;

@@ -19,7 +19,7 @@ pub drop_one_more : (n b : ℕ) (z : Text) → 1 ≤ n → drop (n - 1) z ≡ dr
 drop_one_more zero b z h = absurd (omega arith)
 drop_one_more (suc n) b z h = let e : suc n - 1 ≡ n = omega arith in ap (λ k. drop k z) e
 
-end_stops : (m : Mode) (depth : ℕ) → goes_on (scanned_text (end_in m depth) []) ≡ false
+pub end_stops : (m : Mode) (depth : ℕ) → goes_on (scanned_text (end_in m depth) []) ≡ false
 end_stops mode.Outside depth = cond_both (depth == 0) _ _ (λ p. goes_on (scanned_text p []) ≡ false) (λ _. refl) (λ _. refl)
 end_stops mode.Braces depth = refl
 end_stops (mode.Brackets inside) depth = refl

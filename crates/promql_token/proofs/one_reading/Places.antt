@@ -42,7 +42,7 @@ low_eq b n h low = grind (arith, common_steps)
 -- ---- trivia
 
 -- a byte before the end
-ends_cons : (b : ℕ) (z : Text) (n : ℕ) → Ends z n → (n ≡ 0 → (length z ≡ 0) ⊎ (b < 128)) → Ends (b ∷ z) (suc n)
+pub ends_cons : (b : ℕ) (z : Text) (n : ℕ) → Ends z n → (n ≡ 0 → (length z ≡ 0) ⊎ (b < 128)) → Ends (b ∷ z) (suc n)
 ends_cons b z n e h = record {
   within = let within = e.within in omega arith;
   last = ⊎_elim
