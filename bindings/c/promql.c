@@ -41,6 +41,10 @@ void call_collect(const struct limits *limits, const void *query, size_t query_l
                   size_t buffer_size, struct promql_result *result);
 void call_places(const struct limits *limits, const void *query, size_t query_length, void *buffer,
                  size_t buffer_size, struct promql_result *result);
+void call_parts(const struct limits *limits, const void *query, size_t query_length, void *buffer,
+                size_t buffer_size, struct promql_result *result);
+void call_tokens(const struct limits *limits, const void *text, size_t text_length, void *buffer,
+                 size_t buffer_size, struct promql_result *result);
 void call_check(const struct limits *limits, const void *query, size_t query_length, void *buffer,
                 size_t buffer_size, struct promql_result *result);
 void call_explain(const struct limits *limits, const void *query, size_t query_length, uint32_t as_json, void *buffer,
@@ -201,6 +205,28 @@ uint32_t promql_places(const char *query, size_t query_length, char *buffer, siz
         return refuse(status, result);
     struct limits limits = limits_now();
     call_places(&limits, start_of(query), query_length, room_of(buffer), buffer_size, result);
+    return result->status;
+}
+
+uint32_t promql_parts(const char *query, size_t query_length, char *buffer, size_t buffer_size,
+                      struct promql_result *result)
+{
+    uint32_t status = look_at(query, query_length, buffer, buffer_size, result);
+    if (status != PROMQL_OK)
+        return refuse(status, result);
+    struct limits limits = limits_now();
+    call_parts(&limits, start_of(query), query_length, room_of(buffer), buffer_size, result);
+    return result->status;
+}
+
+uint32_t promql_tokens(const char *text, size_t text_length, char *buffer, size_t buffer_size,
+                       struct promql_result *result)
+{
+    uint32_t status = look_at(text, text_length, buffer, buffer_size, result);
+    if (status != PROMQL_OK)
+        return refuse(status, result);
+    struct limits limits = limits_now();
+    call_tokens(&limits, start_of(text), text_length, room_of(buffer), buffer_size, result);
     return result->status;
 }
 

@@ -295,7 +295,6 @@ func TestExpressionsBelowThemselves(t *testing.T) {
 
 // A fault at the top is found at a cost that grows with the tree, and not with the tree times its height.
 func TestFaultAboveMuch(t *testing.T) {
-	canPrint(t)
 	wide := promql.NewCall("label_join")
 	for i := 0; i < 4_000; i++ {
 		wide.Args = append(wide.Args, selector("a"))

@@ -28,7 +28,6 @@ func atLeast(count, least int) int {
 
 // Lists of each kind and length, read from a query, written, read again and printed.
 func TestLists(t *testing.T) {
-	canPrint(t)
 	for _, count := range []int{0, 1, 21, 1000} {
 		labels := joined("l%04d", ", ", count)
 		for _, query := range []string{
@@ -56,7 +55,6 @@ func TestLists(t *testing.T) {
 }
 
 func TestEmptyMatchingBelowGrouping(t *testing.T) {
-	canPrint(t)
 	for query, matching := range map[string]promql.VectorMatching{
 		"a + ignoring () group_left () b":   {Card: promql.CardManyToOne},
 		"a + ignoring () group_right (c) b": {Card: promql.CardOneToMany, Include: []string{"c"}},
@@ -77,7 +75,6 @@ func TestEmptyMatchingBelowGrouping(t *testing.T) {
 }
 
 func TestLongTexts(t *testing.T) {
-	canPrint(t)
 	long := strings.Repeat("é", 35_000)
 	const before = `{"type":"numberLiteral","val":"1","`
 	if _, err := promql.FromJSON([]byte(before + long + `":1}`)); err == nil || err.Error() != "$."+long+": unknown member" {
@@ -97,7 +94,6 @@ func TestLongTexts(t *testing.T) {
 }
 
 func TestLongNames(t *testing.T) {
-	canPrint(t)
 	name := strings.Repeat("n", 200)
 	query := "sum by (" + name + ") (" + name + "{" + name + `="1"})`
 	if line, err := promql.Print(parsed(t, query)); err != nil || line != query {

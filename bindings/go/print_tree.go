@@ -2,15 +2,6 @@ package promql
 
 /*
 #include "promql.h"
-
-// (weak, since an older library has none)
-extern uint32_t promql_print_tree(const char *, size_t, uint32_t, uint32_t, size_t, uint32_t, char *, size_t,
-                                  struct promql_result *) __attribute__((weak));
-
-static int has_print_tree(void)
-{
-	return promql_print_tree != 0;
-}
 */
 import "C"
 
@@ -19,12 +10,6 @@ import (
 	"errors"
 	"strings"
 )
-
-// ErrNoPrintTree says that the library is an older one, which prints no trees.
-var ErrNoPrintTree = errors.New("the library has no promql_print_tree")
-
-// notATree is PROMQL_NOT_A_TREE, which an older header has not.
-const notATree = 17
 
 // NodeError says why a tree has no text. Path is that of the part at fault in the JSON form, as $.lhs.args[0], and Node the expression
 // there, or the one that has it. It is ErrNotATree; ErrUnfaithful where the text would mean another tree, as with an argument of a wrong
@@ -94,9 +79,6 @@ func ParsePlaced(query string) (Expr, map[Expr]Place, error) {
 // where there are options; with parentheses where the tree needs them, if parentheses is true. What is returned is within the limits of a
 // query, was read again, and means the tree. The errors are ErrNotATree, ErrUnfaithful, ErrTooLargeTree and those without a place.
 func PrintTree(form []byte, parentheses bool, options ...Option) (string, error) {
-	if C.has_print_tree() == 0 {
-		return "", ErrNoPrintTree
-	}
 	made, mode := layout{width: 100}, C.uint32_t(C.PROMQL_LINE)
 	for _, set := range options {
 		set(&made)
@@ -114,7 +96,7 @@ func PrintTree(form []byte, parentheses bool, options ...Option) (string, error)
 		return "", explained{text, ErrTooLargeTree}
 	case C.PROMQL_UNFAITHFUL:
 		return "", explained{text, ErrUnfaithful}
-	case notATree:
+	case C.PROMQL_NOT_A_TREE:
 		return "", explained{text, ErrNotATree}
 	default:
 		return textOrError(string(form), text, result)

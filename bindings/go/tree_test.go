@@ -59,14 +59,6 @@ func text(text string) *string {
 	return &text
 }
 
-// canPrint skips a test where the library prints no trees.
-func canPrint(t *testing.T) {
-	t.Helper()
-	if _, err := promql.Print(&promql.NumberLiteral{Val: "1"}); errors.Is(err, promql.ErrNoPrintTree) {
-		t.Skip(err)
-	}
-}
-
 func selector(name promql.Name, matchers ...promql.Matcher) *promql.VectorSelector {
 	return &promql.VectorSelector{Selection: promql.Selection{Name: name, Matchers: matchers}}
 }
@@ -246,7 +238,6 @@ func TestNumbers(t *testing.T) {
 }
 
 func TestPrint(t *testing.T) {
-	canPrint(t)
 	for query, expr := range trees() {
 		want, _ := promql.Canonical(query)
 		if got, err := promql.Print(expr); err != nil || got != want || expr.String() != want {
@@ -264,7 +255,6 @@ func TestPrint(t *testing.T) {
 }
 
 func TestPrintErrors(t *testing.T) {
-	canPrint(t)
 	wrong := promql.NewCall("rate", selector("foo"))
 	sum := &promql.AggregateExpr{Op: "sum", Expr: wrong}
 	pattern := selector("a", promql.Matcher{Name: "b", Type: promql.MatchRegexp, Value: "("})

@@ -1,10 +1,7 @@
 //! Links libpromql.a: that of the folder in PROMQL_LIB_DIR, that of `lib/` beside this file, or in a checkout that of its `dist/`.
 
 use std::env;
-use std::fs;
 use std::path::PathBuf;
-
-const CALL: &[u8] = b"promql_print_tree";
 
 fn main() {
     println!("cargo:rerun-if-env-changed=PROMQL_LIB_DIR");
@@ -17,10 +14,4 @@ fn main() {
     println!("cargo:rerun-if-changed={}", folder.join("libpromql.a").display());
     println!("cargo:rustc-link-search=native={}", folder.display());
     println!("cargo:rustc-link-lib=static=promql");
-    println!("cargo:rustc-check-cfg=cfg(print_tree)");
-    // (an older library has no such call)
-    let library = fs::read(folder.join("libpromql.a")).unwrap_or_default();
-    if library.windows(CALL.len()).any(|it| it == CALL) {
-        println!("cargo:rustc-cfg=print_tree");
-    }
 }

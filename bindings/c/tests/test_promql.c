@@ -36,7 +36,8 @@ static void *allocate(size_t size)
 }
 
 /* A call with its arguments. */
-enum call { CALL_PRINT, CALL_CANONICAL, CALL_CHECK, CALL_SNIPPET, CALL_ENFORCE, CALL_COLLECT, CALL_PRINT_TREE, CALL_EXPLAIN, CALL_PLACES };
+enum call { CALL_PRINT, CALL_CANONICAL, CALL_CHECK, CALL_SNIPPET, CALL_ENFORCE, CALL_COLLECT, CALL_PRINT_TREE, CALL_EXPLAIN, CALL_PLACES, CALL_PARTS,
+            CALL_TOKENS };
 
 struct request {
     enum call call;
@@ -59,6 +60,10 @@ static uint32_t make_call(const struct request *r, char *buffer, size_t size, st
         return promql_collect(r->query, r->length, buffer, size, result);
     case CALL_PLACES:
         return promql_places(r->query, r->length, buffer, size, result);
+    case CALL_PARTS:
+        return promql_parts(r->query, r->length, buffer, size, result);
+    case CALL_TOKENS:
+        return promql_tokens(r->query, r->length, buffer, size, result);
     case CALL_PRINT_TREE: /* (`end` says whether parentheses are put) */
         return promql_print_tree(r->query, r->length, r->mode, r->level, r->width, (uint32_t)r->end, buffer, size, result);
     case CALL_EXPLAIN:
@@ -477,6 +482,40 @@ static void test_places(void)
     CHECK(gives(of_query(CALL_PLACES, "1 +"), PROMQL_REJECTED, "invalid promql query"));
     CHECK(has_place(of_query(CALL_PLACES, "1 +"), 3, 3, 1, 4));
     CHECK(gives(of_query(CALL_PLACES, "\xff"), PROMQL_NOT_UTF8, "input is not UTF-8"));
+}
+
+static void test_parts(void)
+{
+    CHECK(gives(of_query(CALL_PARTS, "1"), PROMQL_OK, "[[]]"));
+    CHECK(gives(of_query(CALL_PARTS, "topk by (a) (5, b{c='\xc3\xa9'} offset 5m)"), PROMQL_OK,
+                "[[[\"operator\",0,4],[\"label\",9,10]],[],[[\"name\",16,17],[\"matcher\",18,24],[\"offset\",26,35]]]"));
+    CHECK(gives(of_query(CALL_PARTS, "rate(a[5m] @ 1) > on (b) group_left (c) d"), PROMQL_OK,
+                "[[[\"operator\",16,17],[\"label\",22,23],[\"groupLabel\",37,38]],[[\"name\",0,4]],"
+                "[[\"name\",5,6],[\"selector\",5,6],[\"range\",6,10],[\"at\",11,14]],[[\"name\",40,41]]]"));
+    CHECK(gives(of_query(CALL_PARTS, "1 +"), PROMQL_REJECTED, "invalid promql query"));
+    CHECK(has_place(of_query(CALL_PARTS, "1 +"), 3, 3, 1, 4));
+    CHECK(gives(of_query(CALL_PARTS, "\xff"), PROMQL_NOT_UTF8, "input is not UTF-8"));
+}
+
+static void test_tokens(void)
+{
+    CHECK(gives(of_query(CALL_TOKENS, ""), PROMQL_OK, "[]"));
+    CHECK(gives(of_query(CALL_TOKENS, "sum by(a)(b:c[5m]) # d\r== .5"), PROMQL_OK,
+                "[[\"aggregator\",0,3],[\"keyword\",4,6],[\"punctuation\",6,7],[\"name\",7,8],[\"punctuation\",8,9],[\"punctuation\",9,10],"
+                "[\"name\",10,13],[\"punctuation\",13,14],[\"duration\",14,16],[\"punctuation\",16,17],[\"punctuation\",17,18],"
+                "[\"comment\",19,22],[\"operator\",23,25],[\"number\",26,28]]"));
+    /* (a string with an escape that is none, one that is not closed, and what begins no token) */
+    CHECK(gives(of_query(CALL_TOKENS, "{a=~\"\\d\", by!='\xc3\xa9'} ; 5xy"), PROMQL_OK,
+                "[[\"punctuation\",0,1],[\"name\",1,2],[\"operator\",2,4],[\"error\",4,8],[\"punctuation\",8,9],[\"name\",10,12],"
+                "[\"operator\",12,14],[\"string\",14,18],[\"punctuation\",18,19],[\"error\",20,21],[\"error\",22,25]]"));
+    CHECK(gives(of_query(CALL_TOKENS, "[# \xe2\x82\xac\xc3\xa9] 'a"), PROMQL_OK,
+                "[[\"punctuation\",0,1],[\"error\",1,2],[\"error\",3,8],[\"punctuation\",8,9],[\"error\",10,12]]"));
+    CHECK(gives(of_query(CALL_TOKENS, "\xff"), PROMQL_NOT_UTF8, "input is not UTF-8"));
+    promql_set_limits(3, 16000);
+    CHECK(gives(of_query(CALL_TOKENS, ") )"), PROMQL_OK, "[[\"error\",0,1],[\"error\",2,3]]"));
+    CHECK(gives(of_query(CALL_TOKENS, "1\n+2"), PROMQL_TOO_LARGE, "query is too long: 4 bytes, at most 3"));
+    CHECK(has_place(of_query(CALL_TOKENS, "1\n+2"), 4, 4, 2, 3));
+    promql_set_limits(32768, 16000);
 }
 
 /* The limits of a tree, which are looked at before anything of it is made. */
@@ -906,6 +945,8 @@ int main(int argc, char **argv)
         test_explaining();
         test_collecting();
         test_places();
+        test_parts();
+        test_tokens();
         test_trees();
         test_pointers();
         test_version();

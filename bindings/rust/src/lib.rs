@@ -27,6 +27,7 @@ mod node_faults;
 mod print_tree;
 mod read_form;
 mod read_node;
+mod tokens;
 mod tree;
 mod visitor;
 mod write_form;
@@ -34,6 +35,7 @@ mod write_form;
 pub use function::{Function, ValueType, get_function};
 pub use print_tree::{NodeError, parse, places, print, print_layout};
 pub use read_form::{FormError, MOST_HEIGHT};
+pub use tokens::{Part, PartKind, Token, TokenKind, parts, tokens};
 pub use tree::*;
 pub use visitor::{ExprVisitor, ExprVisitorMut, walk_expr, walk_expr_mut};
 
@@ -92,8 +94,6 @@ pub enum Error {
     Node(NodeError),
     /// The text is no JSON form of a query.
     Form(FormError),
-    /// The library is an older one, which prints no trees.
-    NoPrintTree,
 }
 
 /// Why and where a query is rejected.
@@ -173,7 +173,6 @@ impl fmt::Display for Error {
             Error::SmallStack => f.write_str(SMALL_STACK),
             Error::Node(fault) => fault.fmt(f),
             Error::Form(fault) => fault.fmt(f),
-            Error::NoPrintTree => f.write_str("the library has no promql_print_tree"),
         }
     }
 }
@@ -411,7 +410,6 @@ fn text_of((text, answer): (String, Answer)) -> Result<String, Error> {
         library::BARE_INFO => Err(Error::BareInfo),
         library::SMALL_STACK => Err(Error::SmallStack),
         library::NOT_A_TREE => Err(Error::NotATree(text)),
-        library::NO_PRINT_TREE => Err(Error::NoPrintTree),
         library::LARGE_ENFORCED => Err(Error::LargeEnforced(text)),
         library::LONG_OUTPUT => Err(Error::LongOutput(text)),
         library::NOT_A_NAME => Err(Error::NotAName),

@@ -31,8 +31,6 @@ pub const NOT_A_NAME: u32 = 20;
 pub const METRIC_LABEL: u32 = 21;
 pub const CLASH: u32 = 22;
 pub const READ_OTHERWISE: u32 = 23;
-/// No status of the library: it is an older one, which has no such call.
-pub const NO_PRINT_TREE: u32 = u32::MAX;
 
 /// `enum promql_named`.
 #[derive(Clone, Copy)]
@@ -108,6 +106,20 @@ extern "C" {
         buffer_size: usize,
         result: *mut Answer,
     ) -> u32;
+    fn promql_parts(
+        query: *const u8,
+        query_length: usize,
+        buffer: *mut u8,
+        buffer_size: usize,
+        result: *mut Answer,
+    ) -> u32;
+    fn promql_tokens(
+        text: *const u8,
+        text_length: usize,
+        buffer: *mut u8,
+        buffer_size: usize,
+        result: *mut Answer,
+    ) -> u32;
     fn promql_check(
         query: *const u8,
         query_length: usize,
@@ -132,7 +144,6 @@ extern "C" {
         buffer_size: usize,
         result: *mut Answer,
     ) -> u32;
-    #[cfg(print_tree)]
     fn promql_print_tree(
         tree: *const u8,
         tree_length: usize,
@@ -221,6 +232,18 @@ pub fn places(query: &str) -> (String, Answer) {
     })
 }
 
+pub fn parts(query: &str) -> (String, Answer) {
+    call(query.len(), |(buffer, size, answer)| unsafe {
+        promql_parts(query.as_ptr(), query.len(), buffer, size, answer);
+    })
+}
+
+pub fn tokens(text: &str) -> (String, Answer) {
+    call(text.len(), |(buffer, size, answer)| unsafe {
+        promql_tokens(text.as_ptr(), text.len(), buffer, size, answer);
+    })
+}
+
 pub fn collect(query: &str) -> (String, Answer) {
     call(query.len(), |(buffer, size, answer)| unsafe {
         promql_collect(query.as_ptr(), query.len(), buffer, size, answer);
@@ -251,12 +274,6 @@ pub fn snippet(query: &str, start: usize, end: usize) -> (String, Answer) {
     })
 }
 
-#[cfg(not(print_tree))]
-pub fn print_tree(_form: &str, _mode: Mode, _level: u16, _width: usize, _parentheses: bool) -> (String, Answer) {
-    (String::new(), Answer { status: NO_PRINT_TREE, ..Answer::default() })
-}
-
-#[cfg(print_tree)]
 pub fn print_tree(form: &str, mode: Mode, level: u16, width: usize, parentheses: bool) -> (String, Answer) {
     let (tree, length) = (form.as_ptr(), form.len());
     call(length, |(buffer, size, answer)| unsafe {

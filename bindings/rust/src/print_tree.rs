@@ -65,7 +65,7 @@ pub fn places(query: &str) -> Result<Vec<Range<usize>>, Error> {
 ///
 /// # Errors
 ///
-/// `Node` where there is no such text; `OutOfMemory` and `SmallStack`; `NoPrintTree` where the library is an older one.
+/// `Node` where there is no such text; `OutOfMemory` and `SmallStack`.
 pub fn print(tree: &Expr) -> Result<String, Error> {
     print_in_mode(tree, None)
 }

@@ -80,7 +80,6 @@ fn matchers_are_enforced() {
 }
 
 #[test]
-#[cfg_attr(not(print_tree), ignore = "the library has no promql_print_tree")]
 fn trees_are_printed() {
     let tree = json("foo / 2").unwrap();
     assert_eq!(print_tree(&tree, false, None).as_deref(), Ok("foo / 2"));

@@ -208,7 +208,6 @@ fn functions_have_types() {
 }
 
 #[test]
-#[cfg_attr(not(print_tree), ignore = "the library has no promql_print_tree")]
 fn trees_have_texts() {
     for (query, tree) in trees() {
         assert_eq!(print(&tree), canonical(query), "{query}");
@@ -231,7 +230,6 @@ fn fault(tree: &Expr) -> NodeError {
 }
 
 #[test]
-#[cfg_attr(not(print_tree), ignore = "the library has no promql_print_tree")]
 fn faults_name_their_nodes() {
     let wrong = Expr::call("rate", [Expr::selector("foo")]);
     let tree = Expr::Binary(binary("+", number("1"), Expr::aggregate_by("sum", &[], wrong.clone()), None));
@@ -252,7 +250,6 @@ fn faults_name_their_nodes() {
 }
 
 #[test]
-#[cfg_attr(not(print_tree), ignore = "the library has no promql_print_tree")]
 fn large_trees_are_rejected() {
     let said = |form: &str| match print_tree(form, false, None) {
         Err(Error::TooLargeTree(message)) => message,
@@ -277,9 +274,53 @@ fn nodes_have_places() {
     assert!(matches!(places("1 +"), Err(Error::Rejected(found)) if found.range == (3..3)));
 }
 
+#[test]
+fn nodes_have_parts() {
+    let query = "sum by (job) (rate(a{job='é'}[5m] offset 1m)) > on (b) group_left (c) d";
+    let found: Vec<Vec<(PartKind, &str)>> =
+        parts(query).unwrap().into_iter().map(|it| it.into_iter().map(|it| (it.kind, &query[it.range])).collect()).collect();
+    let of_selector = [(PartKind::Name, "a"), (PartKind::Matcher, "job='é'"), (PartKind::Selector, "a{job='é'}"), (PartKind::Range, "[5m]")];
+    assert_eq!(found.len(), places(query).unwrap().len());
+    assert_eq!(found[0], [(PartKind::Operator, ">"), (PartKind::Label, "b"), (PartKind::GroupLabel, "c")]);
+    assert_eq!(found[1], [(PartKind::Operator, "sum"), (PartKind::Label, "job")]);
+    assert_eq!(found[2], [(PartKind::Name, "rate")]);
+    assert_eq!(found[3][..4], of_selector);
+    assert_eq!(found[3][4..], [(PartKind::Offset, "offset 1m")]);
+    assert!(matches!(parts("1 +"), Err(Error::Rejected(found)) if found.range == (3..3)));
+}
+
+#[test]
+fn any_text_has_tokens() {
+    let text = "Sum(a{b=~'é'}[5m:]) AND 1 # c\n; 'd";
+    let found: Vec<(TokenKind, &str)> = tokens(text).unwrap().into_iter().map(|it| (it.kind, &text[it.range])).collect();
+    let punctuation = |it| (TokenKind::Punctuation, it);
+    let wanted = [
+        (TokenKind::Aggregator, "Sum"),
+        punctuation("("),
+        (TokenKind::Name, "a"),
+        punctuation("{"),
+        (TokenKind::Name, "b"),
+        (TokenKind::Operator, "=~"),
+        (TokenKind::String, "'é'"),
+        punctuation("}"),
+        punctuation("["),
+        (TokenKind::Duration, "5m"),
+        punctuation(":"),
+        punctuation("]"),
+        punctuation(")"),
+        (TokenKind::Operator, "AND"),
+        (TokenKind::Number, "1"),
+        (TokenKind::Comment, "# c"),
+        (TokenKind::Error, ";"),
+        (TokenKind::Error, "'d"),
+    ];
+    assert_eq!(found, wanted);
+    assert_eq!(tokens("").unwrap(), []);
+    assert!(matches!(tokens(&" ".repeat(32_769)), Err(Error::TooLarge(_))));
+}
+
 /// A query with a list of so many items in each place of a tree that has one, and what `from_json` and `print` make of it.
 #[test]
-#[cfg_attr(not(print_tree), ignore = "the library has no promql_print_tree")]
 fn lists_of_any_length_are_read_and_printed() {
     for count in [0, 1, 21, 1_000] {
         let labels = (0..count).map(|number| format!("l{number:04}")).collect::<Vec<_>>().join(", ");
@@ -306,7 +347,6 @@ fn lists_of_any_length_are_read_and_printed() {
 }
 
 #[test]
-#[cfg_attr(not(print_tree), ignore = "the library has no promql_print_tree")]
 fn an_empty_matching_below_a_grouping_stays() {
     for (query, card) in [
         ("a + ignoring () group_left () b", VectorMatchCardinality::ManyToOne(Vec::new())),
@@ -322,7 +362,6 @@ fn an_empty_matching_below_a_grouping_stays() {
 }
 
 #[test]
-#[cfg_attr(not(print_tree), ignore = "the library has no promql_print_tree")]
 fn long_texts_are_in_errors_as_they_are() {
     let long = "é".repeat(35_000);
     let error = Expr::from_json(&format!(r#"{{"type":"numberLiteral","val":"1","{long}":1}}"#)).unwrap_err();
@@ -337,7 +376,6 @@ fn long_texts_are_in_errors_as_they_are() {
 }
 
 #[test]
-#[cfg_attr(not(print_tree), ignore = "the library has no promql_print_tree")]
 fn long_names_are_read_and_printed() {
     let name = "n".repeat(200);
     let query = format!("sum by ({name}) ({name}{{{name}=\"1\"}})");

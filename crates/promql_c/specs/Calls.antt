@@ -23,6 +23,7 @@ use Rattle.promql_lines.specs.declared.renamed_line.Named.{Named}
 use Rattle.promql_lines.specs.TreeTexts.{PrintsForm}
 use Rattle.promql_run.specs.declared.format.Format.{Format}
 use Rattle.promql_lines.specs.declared.mode.Mode.{Mode}
+use Rattle.promql_c.specs.TokensText.{GivesTokens}
 
 -- ---- what is made of bytes: a text, or an error
 
@@ -52,7 +53,11 @@ abbrev pub IsRenameOf : Limits → Text → Text → Text → Option Named → R
 IsRenameOf limits query from to =
     OfMode (λ named. OfTexts (IsUtf8 query × IsUtf8 from × IsUtf8 to) (IsRenamedLine limits query (renaming named from to)))
 
--- "collect", "places" and "check": such a text of the query's tree; where it is checked, no text
+-- "tokens": those of any text that is no longer than a query may be
+abbrev pub IsTokensOf : Limits → Text → Result Text QueryError → Type 0
+IsTokensOf limits text = OfTexts (IsUtf8 text) (GivesTokens limits text)
+
+-- "collect", "places", "parts" and "check": such a text of the query's tree; where it is checked, no text
 abbrev pub IsTextOf : (Tree → Text → Type 0) → Limits → Text → Result Text QueryError → Type 0
 IsTextOf Is limits query = OfTexts (IsUtf8 query) (OfTree limits query (λ t. Gives (Is t) (λ e. ⊥)))
 

@@ -6,4 +6,6 @@ pub mod CollectedJson
 pub mod CollectedParts
 pub mod CollectedTexts
 pub mod Formats
+pub mod PartsText
 pub mod PlacesText
+pub mod TokensText

@@ -2,9 +2,10 @@
 
 ghost use Rattle.std.specs.Prelude.{◌≡◌, ◌==◌, [], not, Some, Ok};
 ghost use Rattle.promql_c.specs.CallResults.{Shows, ShowsSome};
-ghost use Rattle.promql_c.specs.Calls.{IsEnforceOf, IsExplainOf, IsFormattedOf, IsPrintOf, IsRenameOf, IsSnippetOf, IsTextOf, IsTreePrintOf};
+ghost use Rattle.promql_c.specs.Calls.{IsEnforceOf, IsExplainOf, IsFormattedOf, IsPrintOf, IsRenameOf, IsSnippetOf, IsTextOf, IsTokensOf, IsTreePrintOf};
 ghost use Rattle.promql_c.specs.CollectedTexts.{IsCollectedText};
 ghost use Rattle.promql_c.specs.Formats.{format_numbered, mode_numbered, named_numbered};
+ghost use Rattle.promql_c.specs.PartsText.{IsPartsText};
 ghost use Rattle.promql_c.specs.PlacesText.{IsPlacesText};
 
 use crate::call_result::{CallResult, show, show_text};
@@ -13,9 +14,10 @@ use crate::enforcing::enforce_query;
 use crate::explaining::explain_query;
 use crate::formatting::format_bytes;
 use crate::modes::{format_of, mode_of};
-use crate::placing::place_query;
+use crate::placing::{part_query, place_query};
 use crate::printing::{check_query, mark_query, print_query};
 use crate::renaming::{named_of, rename_query};
+use crate::tokens::token_texts;
 use crate::tree_printing::print_form;
 use promql_formatter::FormatOptions;
 use promql_lines::mode::Mode;
@@ -101,6 +103,22 @@ pub fn places(alloc: Global, limits: &Limits, query: &[u8], buffer: &mut [u8]) -
     ensures { ShowsSome (IsTextOf (IsPlacesText query.now) limits.now query.now) result buffer.old buffer.new }
 {
     let made = place_query(alloc, limits, query);
+    show(alloc, made, buffer)
+}
+
+/// Shows the parts of the nodes of a query's tree, as JSON (docs/guide/bindings.md, "Parts of nodes").
+pub fn parts(alloc: Global, limits: &Limits, query: &[u8], buffer: &mut [u8]) -> CallResult
+    ensures { ShowsSome (IsTextOf (IsPartsText query.now) limits.now query.now) result buffer.old buffer.new }
+{
+    let made = part_query(alloc, limits, query);
+    show(alloc, made, buffer)
+}
+
+/// Shows the tokens of a text, accepted or not, as JSON (docs/guide/bindings.md, "Tokens").
+pub fn tokens(alloc: Global, limits: &Limits, text: &[u8], buffer: &mut [u8]) -> CallResult
+    ensures { ShowsSome (IsTokensOf limits.now text.now) result buffer.old buffer.new }
+{
+    let made = token_texts(alloc, limits, text);
     show(alloc, made, buffer)
 }
 

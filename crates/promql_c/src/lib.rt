@@ -7,9 +7,10 @@ ghost use Rattle.promql_run.specs.declared.format.Format.TheVariants.{Line};
 ghost use Rattle.promql_c.specs.CallResults.{Shows, ShowsSome};
 ghost use Rattle.promql_span.specs.Targets.{for_rules};
 ghost use Rattle.promql_c.specs.CallLimits.{limits_of};
-ghost use Rattle.promql_c.specs.Calls.{IsEnforceOf, IsExplainOf, IsFormattedOf, IsPrintOf, IsRenameOf, IsSnippetOf, IsTextOf, IsTreePrintOf};
+ghost use Rattle.promql_c.specs.Calls.{IsEnforceOf, IsExplainOf, IsFormattedOf, IsPrintOf, IsRenameOf, IsSnippetOf, IsTextOf, IsTokensOf, IsTreePrintOf};
 ghost use Rattle.promql_c.specs.CollectedTexts.{IsCollectedText};
 ghost use Rattle.promql_c.specs.Formats.{format_numbered, mode_numbered, named_numbered};
+ghost use Rattle.promql_c.specs.PartsText.{IsPartsText};
 ghost use Rattle.promql_c.specs.PlacesText.{IsPlacesText};
 ghost use Rattle.promql_lines.specs.declared.mode.Mode.TheVariants.{Plain};
 ghost use Rattle.promql_c.specs.declared.calls.TheConstants.{CALLS_VERSION};
@@ -30,6 +31,7 @@ mod modes;
 mod placing;
 mod printing;
 mod renaming;
+mod tokens;
 mod tree_printing;
 
 /// `calls::print`.
@@ -131,6 +133,34 @@ pub extern "C" fn call_places(
     ensures { ShowsSome (IsTextOf (IsPlacesText query.now) (for_rules (limits_of limits.now)) query.now) shown.new buffer.old buffer.new }
 {
     *shown = calls::places(alloc, &limits.limits().for_rules(), query, buffer);
+}
+
+/// `calls::parts`.
+#[unsafe(no_mangle)]
+pub extern "C" fn call_parts(
+    alloc: Global,
+    limits: &CallLimits,
+    query: &[u8],
+    buffer: &mut [u8],
+    shown: &mut CallResult,
+)
+    ensures { ShowsSome (IsTextOf (IsPartsText query.now) (for_rules (limits_of limits.now)) query.now) shown.new buffer.old buffer.new }
+{
+    *shown = calls::parts(alloc, &limits.limits().for_rules(), query, buffer);
+}
+
+/// `calls::tokens`.
+#[unsafe(no_mangle)]
+pub extern "C" fn call_tokens(
+    alloc: Global,
+    limits: &CallLimits,
+    text: &[u8],
+    buffer: &mut [u8],
+    shown: &mut CallResult,
+)
+    ensures { ShowsSome (IsTokensOf (for_rules (limits_of limits.now)) text.now) shown.new buffer.old buffer.new }
+{
+    *shown = calls::tokens(alloc, &limits.limits().for_rules(), text, buffer);
 }
 
 /// `calls::check`.

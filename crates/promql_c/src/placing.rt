@@ -1,4 +1,5 @@
-//! The places of the nodes of a query's tree, as JSON: docs/guide/bindings.md, "Places of nodes".
+//! The places of the nodes of a query's tree and of their parts, as JSON: docs/guide/bindings.md, "Places of nodes" and "Parts of
+//! nodes".
 
 ghost use Rattle.std.specs.Prelude.{◌≡◌, IfOk, Ok, map, string_bytes};
 ghost use Rattle.serde_json.specs.View.{view};
@@ -9,13 +10,14 @@ ghost use Rattle.promql_json.specs.JsonParts.{list};
 ghost use Rattle.promql_syntax.specs.ParseAnswers.{IsAnswerTo};
 ghost use Rattle.promql_lines.specs.QueryErrors.{Gives, OfTree};
 ghost use Rattle.promql_c.specs.Calls.{IsTextOf};
+ghost use Rattle.promql_c.specs.PartsText.{IsPartsText, part_name, part_value, parts_value};
 ghost use Rattle.promql_c.specs.PlacesText.{IsPlacesText, span_value};
 
 use crate::collecting::value_text;
 use promql_ast::{Expr, drop_expr};
 use promql_lines::query_error::QueryError;
 use promql_lines::query_tree::query_tree;
-use promql_places::find_places;
+use promql_places::{Part, PartKind, find_parts, find_places};
 use promql_span::Span;
 use promql_span::limits::Limits;
 use serde_json::{Value, json};
@@ -81,4 +83,87 @@ pub(crate) fn place_query(
         return Err(QueryError::NotUtf8);
     };
     place_text(alloc, limits, query)
+}
+
+/// The name of a kind of part.
+fn part_name(kind: PartKind) -> &'static str
+    ensures { result.now ≡ part_name kind }
+{
+    match kind {
+        PartKind::Name => "name",
+        PartKind::Operator => "operator",
+        PartKind::Selector => "selector",
+        PartKind::Matcher => "matcher",
+        PartKind::Label => "label",
+        PartKind::GroupLabel => "groupLabel",
+        PartKind::Range => "range",
+        PartKind::Offset => "offset",
+        PartKind::At => "at",
+        PartKind::Mode => "mode",
+    }
+}
+
+/// The kind of a part, and where it begins and ends, in bytes.
+fn part_value(alloc: Global, part: Part) -> Result<Value, AllocError>
+    ensures { IfOk result (λ v. view v ≡ part_value part) }
+{
+    json!(in alloc; [part_name(part.kind), part.span.start, part.span.end])
+}
+
+/// A list of the parts of a node.
+fn parts_value(alloc: Global, parts: &[Part]) -> Result<Value, AllocError>
+    ensures { IfOk result (λ v. view v ≡ parts_value parts.now) }
+{
+    let mut list = Vec::with_capacity(alloc, parts.len())?;
+    for part in parts {
+        list.push(part_value(alloc, *part)?)?;
+    }
+    Ok(Value::Array(list))
+}
+
+/// A list of the lists of the parts of nodes.
+fn part_lists_value(alloc: Global, lists: &[Vec<Part>]) -> Result<Value, AllocError>
+    ensures { IfOk result (λ v. view v ≡ list (map (λ ps. parts_value ps.items) lists.now)) }
+{
+    let mut list = Vec::with_capacity(alloc, lists.len())?;
+    for parts in lists {
+        list.push(parts_value(alloc, parts.as_slice())?)?;
+    }
+    Ok(Value::Array(list))
+}
+
+/// The JSON of the parts of the nodes of a text's tree.
+fn text_of_parts(alloc: Global, query: &str, expr: &Expr) -> Result<String, AllocError>
+    ensures { IfOk result (λ s. IsAnswerTo query.now (Ok (tree_of expr.now)) → IsPartsText query.now (tree_of expr.now) (string_bytes s)) }
+{
+    let lists = find_parts(alloc, query, expr)?;
+    let value = part_lists_value(alloc, lists.as_slice());
+    drop(lists);
+    value_text(alloc, value?)
+}
+
+/// The JSON of the parts of the nodes of a text's query.
+fn part_text(alloc: Global, limits: &Limits, query: &str) -> Result<String, QueryError>
+    ensures { OfTree limits.now query.now (λ t. Gives (IsPartsText query.now t) (λ e. ⊥)) (on_result (λ s. string_bytes s) result) }
+{
+    let expr = match query_tree(alloc, limits, query) {
+        Ok(expr) => expr,
+        Err(error) => return Err(error),
+    };
+    let text = text_of_parts(alloc, query, &expr);
+    drop_expr(expr);
+    match text {
+        Ok(text) => Ok(text),
+        Err(_) => Err(QueryError::Memory),
+    }
+}
+
+/// The JSON of the parts of the nodes of a query.
+pub(crate) fn part_query(alloc: Global, limits: &Limits, query: &[u8]) -> Result<String, QueryError>
+    ensures { IsTextOf (IsPartsText query.now) limits.now query.now (on_result (λ s. string_bytes s) result) }
+{
+    let Ok(query) = str::from_utf8(query) else {
+        return Err(QueryError::NotUtf8);
+    };
+    part_text(alloc, limits, query)
 }

@@ -19,6 +19,6 @@ mod token_cursor;
 mod visitor;
 
 pub use parts::{Part, PartKind};
-pub use placed::{PlacedExpr, find_places, parse_placed};
+pub use placed::{PlacedExpr, find_parts, find_places, parse_placed};
 pub use placed_form::{placed_json, placed_json_text};
 pub use visitor::{PlacedVisitor, WithPlaces};

@@ -74,6 +74,19 @@ pub fn find_places(alloc: Global, text: &str, expr: &Expr) -> Result<Vec<Span>, 
     Ok(placing.places)
 }
 
+/// The parts of the nodes of this text's tree, in the same order: what `parse_placed` returns of them.
+///
+/// # Errors
+///
+/// `AllocError` where an allocation failed.
+pub fn find_parts(alloc: Global, text: &str, expr: &Expr) -> Result<Vec<Vec<Part>>, AllocError>
+    ensures { IfOk result (λ parts. IsAnswerTo text.now (Ok (tree_of expr.now))
+        → AreOfNodes (parts_of text.now) text.now (tree_of expr.now) (map (λ ps. ps.items) parts.items)) }
+{
+    let placing = placed_nodes(alloc, text, expr)?;
+    Ok(placing.parts)
+}
+
 /// The nodes of this text's tree.
 pub(crate) fn placed_nodes<'a>(
     alloc: Global,

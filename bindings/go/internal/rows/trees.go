@@ -40,15 +40,6 @@ func (r *report) print() {
 	}
 }
 
-// canPrint says whether the library prints trees.
-func canPrint() bool {
-	if _, err := promql.Print(promql.NewNumber(1)); errors.Is(err, promql.ErrNoPrintTree) {
-		fmt.Printf("not tried: the texts of trees in Go: %v\n", err)
-		return false
-	}
-	return true
-}
-
 // The arrays and objects in one another that the library reads.
 const mostDepth = 127
 
@@ -89,7 +80,7 @@ func sorted(form []byte) []byte {
 
 // trees checks that the form of each query, as a tree, gives that form again, and that the tree prints as the canonical line.
 func trees(calls []call) {
-	report, prints := report{reasons: map[string]int{}}, canPrint()
+	report := report{reasons: map[string]int{}}
 	for _, it := range calls {
 		form, err := promql.JSON(it.query)
 		if errors.Is(err, promql.ErrNumberTooWide) {
@@ -102,9 +93,7 @@ func trees(calls []call) {
 		}
 		made, err := json.Marshal(expr)
 		report.check(err == nil && bytes.Equal(sorted(made), sorted(form)), "another form: %q: %v", it.query, err)
-		if prints {
-			report.checkLine(it.query, form, expr)
-		}
+		report.checkLine(it.query, form, expr)
 	}
 	report.print()
 }
@@ -196,7 +185,7 @@ func changeAtRandom(random *rand.Rand, expr, other promql.Expr) promql.Expr {
 
 // changed checks that trees which are changed at random print a text that reads back as the tree, or tell the expression at fault.
 func changed(calls []call, count int, seed int64) {
-	report, prints, random := report{reasons: map[string]int{}}, canPrint(), rand.New(rand.NewSource(seed))
+	report, random := report{reasons: map[string]int{}}, rand.New(rand.NewSource(seed))
 	var queries []string
 	for _, it := range calls {
 		if form, err := promql.JSON(it.query); err == nil && depth(form) < 60 {
@@ -215,9 +204,7 @@ func changed(calls []call, count int, seed int64) {
 		form, err := json.Marshal(expr)
 		again, wrong := promql.FromJSON(form)
 		report.check(err == nil && wrong == nil && reflect.DeepEqual(again, expr), "another form: %s: %v, %v", form, err, wrong)
-		if prints {
-			report.checkChanged(expr)
-		}
+		report.checkChanged(expr)
 	}
 	report.print()
 }

@@ -43,15 +43,6 @@ impl Report {
     }
 }
 
-/// Whether the library prints trees; says that nothing is printed where it does not.
-fn can_print() -> bool {
-    let can = print(&Expr::from(1.0)) != Err(Error::NoPrintTree);
-    if !can {
-        println!("not tried: the texts of trees in Rust: {}", Error::NoPrintTree);
-    }
-    can
-}
-
 /// How deep the arrays and objects of a form are.
 fn depth(form: &str) -> usize {
     let (mut deepest, mut now, mut in_text, mut is_escaped) = (0, 0_usize, false, false);
@@ -71,7 +62,7 @@ fn depth(form: &str) -> usize {
 
 /// Checks that the form of each query, as a tree, gives that form again, and that the tree prints as the canonical line.
 pub fn trees(queries: &[&str]) {
-    let (mut report, prints) = (Report::default(), can_print());
+    let mut report = Report::default();
     for query in queries {
         let form = match json(query) {
             Err(Error::NumberTooWide) => continue,
@@ -80,9 +71,7 @@ pub fn trees(queries: &[&str]) {
         let tree = Expr::from_json(&form).expect("the library's form is one");
         let again = tree.to_json();
         report.check(again == form, || format!("another form: {query}: {again}"));
-        if prints {
-            check_line(&mut report, query, &form, &tree);
-        }
+        check_line(&mut report, query, &form, &tree);
     }
     report.print();
 }
@@ -168,16 +157,14 @@ fn change_at_random(random: &mut Random, tree: &mut Expr, other: &Expr) {
 
 /// Checks that trees which are changed at random print a text that reads back as the tree, or tell the expression at fault.
 pub fn changed(queries: &[&str], count: usize, seed: u64) {
-    let (mut report, mut random, prints) = (Report::default(), Random::new(seed), can_print());
+    let (mut report, mut random) = (Report::default(), Random::new(seed));
     let is_low = |query: &&&str| json(query).map_or(false, |form| depth(&form) < 60);
     let queries: Vec<&&str> = queries.iter().filter(is_low).collect();
     for _ in 0..count {
         let [mut tree, other] = [(); 2].map(|()| parse(queries[random.next(queries.len())]).expect("a row has a tree"));
         change_at_random(&mut random, &mut tree, &other);
         report.check(Expr::from_json(&tree.to_json()).as_ref() == Ok(&tree), || format!("another form: {tree:?}"));
-        if prints {
-            check_changed(&mut report, tree);
-        }
+        check_changed(&mut report, tree);
     }
     report.print();
 }
