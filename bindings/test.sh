@@ -334,8 +334,14 @@ test_python() {
 
 # ---- scripts of bin/
 
+# checked_by_shellcheck: whether shellcheck has nothing to say of the scripts for a shell; that a variable is set in a subshell is meant.
+checked_by_shellcheck() {
+    (cd "$root" && git ls-files | xargs grep -lE '^#!.*(bash|/sh)$' | xargs shellcheck -x -e SC2030,SC2031)
+}
+
 test_scripts() {
     local script
+    if has shellcheck 'scripts for a shell'; then try 'scripts for a shell' checked_by_shellcheck; fi
     has mypy 'the types of the scripts' || return
     for script in checks.py count_definitions list_edits manuals prove test_expected test_vendor vendor; do
         MYPYPATH=$root/bin try "the types of bin/$script" mypy --strict --cache-dir "$work/mypy" "$root/bin/$script"
@@ -376,6 +382,7 @@ test_rust() {
     has cargo 'the binding for Rust' || return
     add 'Rust' cargo_tests
     test_serde
+    test_habits_of_rust
     try 'the examples for Rust' build_rust
     [ -x "$work/target/release/examples/rows" ] || return
     try 'the example for Rust' cache_keys
@@ -407,6 +414,26 @@ test_serde() {
     fi
 }
 
+# formatted_rust: whether the crates for Rust are in the layout of rustfmt, which knows `style_edition` from 1.85 on.
+formatted_rust() {
+    cargo fmt --check --manifest-path "$here/rust/Cargo.toml" && cargo fmt --check --manifest-path "$here/rust/serde/Cargo.toml"
+}
+
+test_habits_of_rust() {
+    has cargo 'habits of Rust' || return
+    if cargo fmt --version 2>/dev/null | grep -qE ' 1\.([89]|[1-9][0-9])\.'; then
+        try 'the layout of Rust' formatted_rust
+    else
+        echo 'not tried: the layout of Rust: there is no rustfmt from 1.8 on'
+    fi
+    if cargo clippy --version >/dev/null 2>&1; then
+        try 'clippy' in_cargo clippy --all-targets -- -D warnings
+    else
+        echo 'not tried: clippy: cargo has none here'
+    fi
+    RUSTDOCFLAGS=-Dwarnings try 'the documents of the crate' in_cargo doc --no-deps
+}
+
 # ---- Go
 
 # in_go FOLDER ARGUMENT..: go in this folder of the module, which fetches nothing.
@@ -427,8 +454,17 @@ go_tests() {
     print_counts "$passed" "$lost" && [ "$passed" -gt 0 ]
 }
 
+# formatted_go: whether gofmt has nothing to change.
+formatted_go() {
+    local left
+    left=$(gofmt -l "$here/go")
+    printf '%s\n' "$left"
+    [ -z "$left" ]
+}
+
 test_go() {
     has go 'the binding for Go' || return
+    try 'the layout of Go' formatted_go
     try 'go vet' in_go . vet ./...
     add 'Go' go_tests
     try 'the proxy in Go by the race detector' in_go . test -race ./cmd/promql-proxy/...
@@ -576,7 +612,7 @@ test_editor() {
 export -f shows_own_names build_c bench_prints example_prints build_sanitized overrun_is_reported under_valgrind build_project
 export -f find_installed in_python unit_tests print_counts print_cargo_counts
 export debian_crates
-export -f in_cargo cargo_tests cargo_tests_with_serde build_rust cache_keys in_go go_tests
+export -f formatted_rust formatted_go checked_by_shellcheck in_cargo cargo_tests cargo_tests_with_serde build_rust cache_keys in_go go_tests
 
 parts=(names c install python scripts rust go examples)
 case "${1:-}" in

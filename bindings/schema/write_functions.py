@@ -47,8 +47,8 @@ def rust_table(rows: Rows) -> str:
 
     head = [f"//! The functions of the language. {HEADER}", "", "use crate::function::Function;"]
     head += ["use crate::function::ValueType::{self, Matrix, Scalar, String, Vector};", ""]
-    head += ["const fn row(", "    name: &'static str,", "    arg_types: &'static [ValueType],", "    variadic: i32,"]
-    head += ["    return_type: ValueType,", "    experimental: bool,", ") -> Function {"]
+    parameters = "name: &'static str, arg_types: &'static [ValueType], variadic: i32, return_type: ValueType, experimental: bool"
+    head += [f"const fn row({parameters}) -> Function {{"]
     head += ["    Function { name, arg_types, variadic, return_type, experimental }", "}", ""]
     head += ["#[rustfmt::skip]", f"pub const TABLE: [Function; {len(rows)}] = ["]
     return "\n".join([*head, *map(row, rows), "];", ""])

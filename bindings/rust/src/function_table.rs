@@ -3,13 +3,7 @@
 use crate::function::Function;
 use crate::function::ValueType::{self, Matrix, Scalar, String, Vector};
 
-const fn row(
-    name: &'static str,
-    arg_types: &'static [ValueType],
-    variadic: i32,
-    return_type: ValueType,
-    experimental: bool,
-) -> Function {
+const fn row(name: &'static str, arg_types: &'static [ValueType], variadic: i32, return_type: ValueType, experimental: bool) -> Function {
     Function { name, arg_types, variadic, return_type, experimental }
 }
 

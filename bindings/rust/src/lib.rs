@@ -5,7 +5,7 @@
 //! # Ok::<(), promql_proved::Error>(())
 //! ```
 //!
-//! [`parse`] reads a query into an [`Expr`], which [`print`] prints again:
+//! [`parse`] reads a query into an [`Expr`], which [`print()`] prints again:
 //!
 //! ```
 //! # use promql_proved::{Expr, parse};
@@ -129,11 +129,7 @@ impl Rejection {
         let (text, answer) = library::explain(query);
         let told = if answer.status == library::OK { json::read(&text) } else { None };
         let explanation = told.and_then(|json| explanation_in(json.value(), (self.line, self.column)));
-        explanation.unwrap_or_else(|| Explanation {
-            message: self.message.clone(),
-            expected: Vec::new(),
-            found: None,
-        })
+        explanation.unwrap_or_else(|| Explanation { message: self.message.clone(), expected: Vec::new(), found: None })
     }
 
     /// The line of the query where the range begins, a line feed, and a mark below the range.
@@ -167,9 +163,7 @@ impl fmt::Display for Error {
             Error::NotAName => f.write_str("the new name is no name of a metric"),
             Error::MetricLabel => f.write_str("the label of the metric name cannot be renamed"),
             Error::Clash => f.write_str("both labels are in one list"),
-            Error::BareInfo => {
-                f.write_str("info without a selector reads series that no matcher limits")
-            }
+            Error::BareInfo => f.write_str("info without a selector reads series that no matcher limits"),
             Error::SmallStack => f.write_str(SMALL_STACK),
             Error::Node(fault) => fault.fmt(f),
             Error::Form(fault) => fault.fmt(f),
@@ -187,7 +181,7 @@ const NOT_A_MATCHER: &str = "not a matcher";
 /// The message of a thread with little stack.
 const SMALL_STACK: &str = "the thread has less than 1.25 MiB of stack left";
 
-/// How [`format`] lays a query out.
+/// How [`format()`] lays a query out.
 #[derive(Clone, Copy, Debug, PartialEq, Eq)]
 pub struct Layout {
     /// The most bytes that a line has after its indentation by the level, where that can be.
@@ -375,7 +369,7 @@ pub fn set_target(target: Target) {
     });
 }
 
-/// Sets how many bytes what [`canonical`], [`format`], [`json`] and [`placed_json`] return has at most, in this process: 4,194,304 before
+/// Sets how many bytes what [`canonical`], [`format()`], [`json`] and [`placed_json`] return has at most, in this process: 4,194,304 before
 /// the first call.
 pub fn set_max_output(bytes: usize) {
     library::set_max_output(bytes);

@@ -64,13 +64,7 @@ extern "C" {
         buffer_size: usize,
         result: *mut Answer,
     ) -> u32;
-    fn promql_canonical(
-        query: *const u8,
-        query_length: usize,
-        buffer: *mut u8,
-        buffer_size: usize,
-        result: *mut Answer,
-    ) -> u32;
+    fn promql_canonical(query: *const u8, query_length: usize, buffer: *mut u8, buffer_size: usize, result: *mut Answer) -> u32;
     fn promql_enforce(
         query: *const u8,
         query_length: usize,
@@ -92,49 +86,13 @@ extern "C" {
         buffer_size: usize,
         result: *mut Answer,
     ) -> u32;
-    fn promql_collect(
-        query: *const u8,
-        query_length: usize,
-        buffer: *mut u8,
-        buffer_size: usize,
-        result: *mut Answer,
-    ) -> u32;
-    fn promql_places(
-        query: *const u8,
-        query_length: usize,
-        buffer: *mut u8,
-        buffer_size: usize,
-        result: *mut Answer,
-    ) -> u32;
-    fn promql_parts(
-        query: *const u8,
-        query_length: usize,
-        buffer: *mut u8,
-        buffer_size: usize,
-        result: *mut Answer,
-    ) -> u32;
-    fn promql_tokens(
-        text: *const u8,
-        text_length: usize,
-        buffer: *mut u8,
-        buffer_size: usize,
-        result: *mut Answer,
-    ) -> u32;
-    fn promql_check(
-        query: *const u8,
-        query_length: usize,
-        buffer: *mut u8,
-        buffer_size: usize,
-        result: *mut Answer,
-    ) -> u32;
-    fn promql_explain(
-        query: *const u8,
-        query_length: usize,
-        as_json: u32,
-        buffer: *mut u8,
-        buffer_size: usize,
-        result: *mut Answer,
-    ) -> u32;
+    fn promql_collect(query: *const u8, query_length: usize, buffer: *mut u8, buffer_size: usize, result: *mut Answer) -> u32;
+    fn promql_places(query: *const u8, query_length: usize, buffer: *mut u8, buffer_size: usize, result: *mut Answer) -> u32;
+    fn promql_parts(query: *const u8, query_length: usize, buffer: *mut u8, buffer_size: usize, result: *mut Answer) -> u32;
+    fn promql_tokens(text: *const u8, text_length: usize, buffer: *mut u8, buffer_size: usize, result: *mut Answer) -> u32;
+    fn promql_check(query: *const u8, query_length: usize, buffer: *mut u8, buffer_size: usize, result: *mut Answer) -> u32;
+    fn promql_explain(query: *const u8, query_length: usize, as_json: u32, buffer: *mut u8, buffer_size: usize, result: *mut Answer)
+    -> u32;
     fn promql_snippet(
         query: *const u8,
         query_length: usize,

@@ -70,17 +70,17 @@ pub fn print(tree: &Expr) -> Result<String, Error> {
     print_in_mode(tree, None)
 }
 
-/// The text of a tree, laid out as by [`format`](crate::format).
+/// The text of a tree, laid out as by [`format`](crate::format()).
 ///
 /// # Errors
 ///
-/// Those of [`print`], and `LevelTooHigh`.
+/// Those of [`print()`], and `LevelTooHigh`.
 pub fn print_layout(tree: &Expr, layout: Layout) -> Result<String, Error> {
     print_in_mode(tree, Some(layout))
 }
 
 impl fmt::Display for Expr {
-    /// What [`print`] gives, or its error within `<` and `>`.
+    /// What [`print()`] gives, or its error within `<` and `>`.
     fn fmt(&self, f: &mut fmt::Formatter<'_>) -> fmt::Result {
         match print(self) {
             Ok(line) => f.write_str(&line),

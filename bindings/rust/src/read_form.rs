@@ -28,7 +28,7 @@ impl error::Error for FormError {}
 
 impl Expr {
     /// The tree of a JSON form, as [`json`](crate::json) and [`Expr::to_json`] give it. Types of expressions, names and patterns are not
-    /// looked at: [`print`](crate::print) tells where they are wrong. At most [`MOST_HEIGHT`] nodes are above one another.
+    /// looked at: [`print()`](crate::print) tells where they are wrong. At most [`MOST_HEIGHT`] nodes are above one another.
     ///
     /// # Errors
     ///

@@ -218,8 +218,7 @@ fn read_selector(members: &mut Members<'_>) -> Read<VectorSelector> {
 }
 
 fn read_matcher(value: Value<'_>) -> Read<Matcher> {
-    const OPERATORS: [(&str, MatchOp); 4] =
-        [("=", MatchOp::Equal), ("!=", MatchOp::NotEqual), ("=~", MatchOp::Re), ("!~", MatchOp::NotRe)];
+    const OPERATORS: [(&str, MatchOp); 4] = [("=", MatchOp::Equal), ("!=", MatchOp::NotEqual), ("=~", MatchOp::Re), ("!~", MatchOp::NotRe)];
     let mut members = Members::of(value)?;
     let found = Matcher { op: members.word("type", &OPERATORS)?, name: members.text("name")?, value: members.text("value")? };
     members.end()?;

@@ -6,7 +6,7 @@ use std::mem;
 
 /// An expression of a query. The names are those of the crate `promql-parser`.
 ///
-/// [`parse`](crate::parse) and `FromStr` read one, [`print`](crate::print) and `Display` print it, and [`Expr::to_json`] and
+/// [`parse`](crate::parse) and `FromStr` read one, [`print()`](crate::print) and `Display` print it, and [`Expr::to_json`] and
 /// [`Expr::from_json`] are the ways to and from the JSON form (`docs/reference/json.md` of the repository), which has all that a tree has.
 /// Times and lengths of time are whole milliseconds.
 #[derive(PartialEq, Eq, Hash)]
@@ -294,7 +294,7 @@ impl Expr {
         VectorSelector { name: Some(name.to_string()), ..VectorSelector::default() }.into()
     }
 
-    /// A call of the function of this name. One of another name has no text: [`print`](crate::print) says so.
+    /// A call of the function of this name. One of another name has no text: [`print()`](crate::print) says so.
     pub fn call(name: &str, args: impl Into<Vec<Expr>>) -> Expr {
         Expr::Call(Call { name: name.to_string(), args: args.into() })
     }

@@ -20,10 +20,7 @@ const AROUND: [(&str, &str); 7] = [
         "]}",
     ),
     (r#"{"expr":"#, r#","grouping":[],"op":"sum","param":null,"type":"aggregation","without":false}"#),
-    (
-        r#"{"expr":{"type":"numberLiteral","val":"1"},"grouping":[],"op":"topk","type":"aggregation","without":false,"param":"#,
-        "}",
-    ),
+    (r#"{"expr":{"type":"numberLiteral","val":"1"},"grouping":[],"op":"topk","type":"aggregation","without":false,"param":"#, "}"),
     (r#"{"expr":"#, r#","offset":0,"range":1,"startOrEnd":null,"step":null,"timestamp":null,"type":"subquery"}"#),
 ];
 
@@ -250,6 +247,8 @@ fn a_fault_above_much_is_found_quickly() {
     let high = (0..50).fold(wide, |expr, _| Expr::Paren(ParenExpr { expr: Box::new(expr) }));
     let tree = Expr::call("rate", [high]);
     let (outcome, took) = time(|| print(&tree));
-    assert!(matches!(outcome, Err(Error::Node(fault)) if fault.path.ends_with(".expr.expr") && fault.node(&tree).children().len() == 4_000));
+    assert!(
+        matches!(outcome, Err(Error::Node(fault)) if fault.path.ends_with(".expr.expr") && fault.node(&tree).children().len() == 4_000)
+    );
     assert!(took < Duration::from_secs(10), "{took:?}");
 }

@@ -1,8 +1,8 @@
 //! Each function, its errors, and calls side by side.
 
 use promql_proved::{
-    Error, Layout, Rejection, Target, canonical, check, collect, enforce, format, json, placed_json, print_tree,
-    rename_label, rename_metric, set_target, version,
+    Error, Layout, Rejection, Target, canonical, check, collect, enforce, format, json, placed_json, print_tree, rename_label,
+    rename_metric, set_target, version,
 };
 use std::thread;
 
@@ -152,10 +152,8 @@ fn too_many_levels_are_explained() {
 #[test]
 fn some_rejections_have_no_more_to_tell() {
     // Not a syntax error; a query that the rejection is not of.
-    for (query, other, message) in [
-        ("nosuch(1)", "nosuch(1)", "unknown function with name 'nosuch'"),
-        ("1 +", "1", "invalid promql query"),
-    ] {
+    for (query, other, message) in [("nosuch(1)", "nosuch(1)", "unknown function with name 'nosuch'"), ("1 +", "1", "invalid promql query")]
+    {
         let told = rejection(query).explain(other);
         assert_eq!((told.expected, told.found, told.message), (Vec::new(), None, message.to_owned()));
     }
@@ -170,7 +168,7 @@ fn the_end_of_a_query_is_a_place() {
 #[test]
 fn a_part_outside_of_the_query_is_shown() {
     let mut found = rejection("1 +");
-    found.range = 90..80;
+    (found.range.start, found.range.end) = (90, 80);
     found.snippet("1 +");
 }
 
@@ -221,9 +219,7 @@ fn threads_get_the_same() {
 
 /// Queries that need much of a stack: parentheses, and patterns of as many nested groups as are read, and of more.
 fn deep_queries() -> Vec<String> {
-    let nested = |opens: &str, count, inner: &str, closes: &str| {
-        [opens.repeat(count), inner.to_string(), closes.repeat(count)].concat()
-    };
+    let nested = |opens: &str, count, inner: &str, closes: &str| [opens.repeat(count), inner.to_string(), closes.repeat(count)].concat();
     let mut queries = vec![nested("(", 510, "1", ")"), "(".repeat(510)];
     for (opens, closes) in [("(", ")"), ("(?:", ")"), ("[", "]")] {
         for count in [248, 250] {

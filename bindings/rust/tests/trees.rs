@@ -279,7 +279,8 @@ fn nodes_have_parts() {
     let query = "sum by (job) (rate(a{job='é'}[5m] offset 1m)) > on (b) group_left (c) d";
     let found: Vec<Vec<(PartKind, &str)>> =
         parts(query).unwrap().into_iter().map(|it| it.into_iter().map(|it| (it.kind, &query[it.range])).collect()).collect();
-    let of_selector = [(PartKind::Name, "a"), (PartKind::Matcher, "job='é'"), (PartKind::Selector, "a{job='é'}"), (PartKind::Range, "[5m]")];
+    let of_selector =
+        [(PartKind::Name, "a"), (PartKind::Matcher, "job='é'"), (PartKind::Selector, "a{job='é'}"), (PartKind::Range, "[5m]")];
     assert_eq!(found.len(), places(query).unwrap().len());
     assert_eq!(found[0], [(PartKind::Operator, ">"), (PartKind::Label, "b"), (PartKind::GroupLabel, "c")]);
     assert_eq!(found[1], [(PartKind::Operator, "sum"), (PartKind::Label, "job")]);

@@ -10,9 +10,7 @@
 mod random;
 mod trees;
 
-use promql_proved::{
-    Error, Layout, Target, canonical, check, enforce, format, json, placed_json, set_limits, set_target,
-};
+use promql_proved::{Error, Layout, Target, canonical, check, enforce, format, json, placed_json, set_limits, set_target};
 use random::Random;
 use std::io::{self, BufWriter, Write};
 use std::{env, fs, str, thread};
