@@ -28,10 +28,12 @@ __all__ = [
     "LongOutputError",
     "MatcherError",
     "NumberTooWideError",
+    "Part",
     "QueryError",
     "ReadOtherwiseError",
     "RenameError",
     "SmallStackError",
+    "Token",
     "TooLargeError",
     "TooLargeTreeError",
     "TreeError",
@@ -45,12 +47,14 @@ __all__ = [
     "format_query",
     "limits",
     "parse",
+    "parts",
     "places",
     "print_tree",
     "rename_label",
     "rename_metric",
     "set_limits",
     "set_target",
+    "tokens",
     "version",
 ]
 __version__ = "0.5.0"
@@ -229,11 +233,7 @@ def parse(query: str, *, places: bool = False) -> Dict[str, Any]:
 
 def _place_characters(tree: object, query: str) -> None:
     """Makes the places of a tree those in the characters of its query, and not in the bytes."""
-    before = {0: 0}
-    length = 0
-    for count, character in enumerate(query, 1):
-        length += len(character.encode())
-        before[length] = count
+    before = _characters(query)
     rest = [tree]
     while rest:
         it = rest.pop()
@@ -242,6 +242,15 @@ def _place_characters(tree: object, query: str) -> None:
             rest.extend(it.values())
         elif isinstance(it, list):
             rest.extend(it)
+
+
+def _characters(text: str) -> Dict[int, int]:
+    """The place in characters of each place in bytes where one begins, and of the end."""
+    found, length = {0: 0}, 0
+    for count, character in enumerate(text, 1):
+        length += len(character.encode())
+        found[length] = count
+    return found
 
 
 def print_tree(tree: Mapping[str, object], *, parentheses: bool = False, width: Optional[int] = None, level: int = 0) -> str:
@@ -341,8 +350,56 @@ def places(query: str) -> List[Tuple[int, int]]:
     found: List[Tuple[int, int]] = [(start, end) for start, end in json.loads(_text(query, _caller.places(query)))]
     if query.isascii():
         return found
-    encoded = query.encode()
-    return [(len(encoded[:start].decode()), len(encoded[:end].decode())) for start, end in found]
+    before = _characters(query)
+    return [(before[start], before[end]) for start, end in found]
+
+
+class Part(NamedTuple):
+    """The part `query[start:end]` of a node, and its kind (docs/reference/walks.md, "Parts of nodes"): `name`, `operator`, `selector`,
+    `matcher`, `label`, `groupLabel`, `range`, `offset`, `at` or `mode`."""
+
+    kind: str
+    start: int
+    end: int
+
+
+def parts(query: str) -> List[List[Part]]:
+    """The parts of each node of the query's tree, in the order of `places`. Those of one node come in the order in which they end.
+
+    >>> [part.kind for part in promql.parts("rate(a{b='c'}[5m])")[1]]
+    ['name', 'matcher', 'selector', 'range']
+    """
+    found = json.loads(_text(query, _caller.parts(query)))
+    if query.isascii():
+        return [[Part(*part) for part in node] for node in found]
+    before = _characters(query)
+    return [[Part(kind, before[start], before[end]) for kind, start, end in node] for node in found]
+
+
+class Token(NamedTuple):
+    """The token `text[start:end]` of a text, and its kind: `number`, `duration`, `string`, `name`, `aggregator`, `keyword`, `operator`,
+    `punctuation`, `comment` or `error`. Between braces each word is a name, but for the operator `or`."""
+
+    kind: str
+    start: int
+    end: int
+
+
+def tokens(text: str) -> List[Token]:
+    """The tokens of a text, whether it is accepted or not, and its comments, in their order. White space alone is between them.
+
+    What no token begins with is an error, and the tokens go on after it. It is a string with an unknown escape, or one that is not closed,
+    which ends with the text; or letters and digits where no word or number may be; or else one character. Raises TooLargeError where the
+    text is longer than a query may be (`set_limits`), and QueryError for nothing else.
+
+    >>> promql.tokens("up 5x")
+    [Token(kind='name', start=0, end=2), Token(kind='error', start=3, end=5)]
+    """
+    found = json.loads(_text(text, _caller.tokens(text)))
+    if text.isascii():
+        return [Token(*it) for it in found]
+    before = _characters(text)
+    return [Token(kind, before[start], before[end]) for kind, start, end in found]
 
 
 def check(query: str) -> None:

@@ -43,6 +43,8 @@ _SIGNATURES = {
     "promql_rename": [*_QUERY, ctypes.c_uint32, *_QUERY, *_QUERY, *_BUFFER],
     "promql_collect": [*_QUERY, *_BUFFER],
     "promql_places": [*_QUERY, *_BUFFER],
+    "promql_parts": [*_QUERY, *_BUFFER],
+    "promql_tokens": [*_QUERY, *_BUFFER],
     "promql_check": [*_QUERY, *_BUFFER],
     "promql_explain": [*_QUERY, ctypes.c_uint32, *_BUFFER],
     "promql_snippet": [*_QUERY, ctypes.c_size_t, ctypes.c_size_t, *_BUFFER],
@@ -176,6 +178,11 @@ def places(query: str) -> Answer:
     return _answer(call("promql_places", 4 * len(encoded), encoded, len(encoded)))
 
 
+def parts(query: str) -> Answer:
+    encoded = _encoded(query)
+    return _answer(call("promql_parts", 8 * len(encoded), encoded, len(encoded)))
+
+
 def print_tree(form: str, mode: int, level: int, width: int, parentheses: int) -> Answer:
     encoded = _encoded(form)
     return _answer(call("promql_print_tree", len(encoded), encoded, len(encoded), mode, level, width, parentheses))
@@ -190,6 +197,11 @@ def set_limits(max_len: int, max_pattern_size: int, max_output: int, max_tree: i
 def set_target(number: int) -> None:
     if _library.promql_set_target(number) != Status.OK:
         raise ValueError(f"no target has the number {number}")
+
+
+def tokens(query: str) -> Answer:
+    encoded = _encoded(query)
+    return _answer(call("promql_tokens", 16 * len(encoded), encoded, len(encoded)))
 
 
 def version() -> Answer:

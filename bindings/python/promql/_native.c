@@ -30,6 +30,8 @@ struct library {
     __typeof__(promql_rename) *rename;
     __typeof__(promql_collect) *collect;
     __typeof__(promql_places) *places;
+    __typeof__(promql_parts) *parts;
+    __typeof__(promql_tokens) *tokens;
     __typeof__(promql_check) *check;
     __typeof__(promql_explain) *explain;
     __typeof__(promql_snippet) *snippet;
@@ -42,7 +44,8 @@ struct library {
     __typeof__(promql_set_target) *set_target;
 };
 
-enum call { PRINT, CANONICAL, ENFORCE, RENAME, COLLECT, PLACES, CHECK, EXPLAIN, SNIPPET, PRINT_TREE, FORMAT_QUERY, VERSION };
+enum call { PRINT, CANONICAL, ENFORCE, RENAME, COLLECT, PLACES, PARTS, TOKENS, CHECK, EXPLAIN, SNIPPET, PRINT_TREE, FORMAT_QUERY,
+            VERSION };
 
 /* A call with what it is given. `room` is how many bytes of text are likely for each byte of the query. */
 struct request {
@@ -87,6 +90,10 @@ static uint32_t make_call(const struct library *library, const struct request *r
         return library->collect(query, length, buffer, size, result);
     case PLACES:
         return library->places(query, length, buffer, size, result);
+    case PARTS:
+        return library->parts(query, length, buffer, size, result);
+    case TOKENS:
+        return library->tokens(query, length, buffer, size, result);
     case CHECK:
         return library->check(query, length, buffer, size, result);
     case EXPLAIN:
@@ -244,6 +251,16 @@ static PyObject *collect(PyObject *module, PyObject *query)
 static PyObject *places(PyObject *module, PyObject *query)
 {
     return answer_about(module, query, (struct request){.call = PLACES, .room = 4});
+}
+
+static PyObject *parts(PyObject *module, PyObject *query)
+{
+    return answer_about(module, query, (struct request){.call = PARTS, .room = 8});
+}
+
+static PyObject *tokens(PyObject *module, PyObject *text)
+{
+    return answer_about(module, text, (struct request){.call = TOKENS, .room = 16});
 }
 
 static PyObject *check(PyObject *module, PyObject *query)
@@ -570,6 +587,7 @@ static PyObject *load(PyObject *module, PyObject *path)
     if (find(handle, "promql_print", &found.print) || find(handle, "promql_canonical", &found.canonical) ||
         find(handle, "promql_enforce", &found.enforce) || find(handle, "promql_rename", &found.rename) ||
         find(handle, "promql_collect", &found.collect) || find(handle, "promql_places", &found.places) ||
+        find(handle, "promql_parts", &found.parts) || find(handle, "promql_tokens", &found.tokens) ||
         find(handle, "promql_check", &found.check) || find(handle, "promql_explain", &found.explain) ||
         find(handle, "promql_snippet", &found.snippet) ||
         find(handle, "promql_version", &found.version) || find(handle, "promql_set_limits", &found.set_limits) ||
@@ -597,6 +615,7 @@ static PyMethodDef methods[] = {
     {"format", format, METH_VARARGS, NULL},
     {"format_query", format_query, METH_VARARGS, NULL},
     {"json", json, METH_O, NULL},
+    {"parts", parts, METH_O, NULL},
     {"placed_json", placed_json, METH_O, NULL},
     {"places", places, METH_O, NULL},
     {"print_tree", print_tree, METH_VARARGS, NULL},
@@ -604,6 +623,7 @@ static PyMethodDef methods[] = {
     {"set_limits", set_limits, METH_VARARGS, NULL},
     {"set_target", set_target, METH_O, NULL},
     {"snippet", snippet, METH_VARARGS, NULL},
+    {"tokens", tokens, METH_O, NULL},
     {"version", version, METH_NOARGS, NULL},
     {NULL, NULL, 0, NULL},
 };

@@ -48,6 +48,9 @@ FUNCTIONS = (
     ("rename", 2, "", ""),
 )
 # (an older library has none)
+for name in "parts", "tokens":
+    if hasattr(calls, name) and hasattr(_library._library, f"promql_{name}"):
+        FUNCTIONS += ((name,),)
 if hasattr(calls, "print_tree") and hasattr(_library._library, "promql_print_tree"):
     FUNCTIONS += (("print_tree", 0, 0, 0, True), ("print_tree", 1, 2, 20, False), ("print_tree", 3, 0, 0, True))
 

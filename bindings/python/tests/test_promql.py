@@ -219,6 +219,95 @@ class Texts(unittest.TestCase):
             promql.collect("1 +")
 
     @unittest.skipUnless(hasattr(_library._library, "promql_print_tree"), "the library has no promql_print_tree")
+    def test_parts(self):
+        """Each part of each node, typed from what docs/reference/walks.md says of them."""
+        for query, wanted in (
+            ("1", [[]]),
+            ("foo{a='b', 'c d'!~\"e\"}[5m] offset -1m", [["name foo", "matcher a='b'", "matcher 'c d'!~\"e\"", "selector foo{a='b', 'c d'!~\"e\"}", "range [5m]", "offset offset -1m"]]),
+            ("{'é', a='🦀'} @ end()", [["matcher 'é'", "matcher a='🦀'", "at @ end()"]]),
+            ("topk by (a, b) (5, c)", [["operator topk", "label a", "label b"], [], ["name c"]]),
+            ("a / on (b) group_left (c) -d", [["operator /", "label b", "groupLabel c"], ["name a"], ["operator -"], ["name d"]]),
+            ("rate(a[1m] smoothed)", [["name rate"], ["name a", "selector a", "range [1m]", "mode smoothed"]]),
+            ("(a)[5m:1m] # é", [["range [5m:1m]"], [], ["name a"]]),
+        ):
+            found = promql.parts(query)
+            self.assertEqual([[f"{part.kind} {query[part.start : part.end]}" for part in node] for node in found], wanted)
+            self.assertEqual(len(found), len(promql.places(query)))
+        self.assertEqual(promql.parts("-a"), [[promql.Part("operator", 0, 1)], [promql.Part("name", 1, 2)]])
+
+    def test_parts_of_rejected(self):
+        for query, error in (("a +", promql.QueryError), ("", promql.QueryError), ("a" * 32_769, promql.TooLargeError), ("\ud800", UnicodeEncodeError)):
+            with self.assertRaises(error):
+                promql.parts(query)
+
+    def tokens_of(self, text):
+        """The tokens with their texts, between which there is white space alone."""
+        found, at = [], 0
+        for token in promql.tokens(text):
+            self.assertEqual(text[at : token.start].strip(" \t\n\f\r"), "", text)
+            found.append((token.kind, text[token.start : token.end]))
+            at = token.end
+        self.assertEqual(text[at:].strip(" \t\n\f\r"), "", text)
+        return found
+
+    def test_tokens(self):
+        self.assertEqual(promql.tokens("up 5x"), [promql.Token("name", 0, 2), promql.Token("error", 3, 5)])
+        self.assertEqual(promql.tokens(" \n"), [])
+        self.assertEqual(promql.tokens(""), [])
+        for text, kind in (
+            ("1 0x1F .5 1e-3 Inf nan", "number"),
+            ("5m 1h30m", "duration"),
+            ("'é' \"\\n\" `\\é`", "string"),
+            ("foo job:up:sum :a rate step fill", "name"),
+            ("sum TOPK count_values limit_ratio", "aggregator"),
+            ("by WITHOUT on ignoring group_left group_right bool offset smoothed anchored start end", "keyword"),
+            ("+ - * / % ^ == != <= < >= > and or Unless atan2 @ =", "operator"),
+        ):
+            self.assertEqual(self.tokens_of(text), [(kind, word) for word in text.split()])
+        self.assertEqual([kind for kind, _ in self.tokens_of("fill (1) fill_left\n(")], ["keyword", "punctuation", "number", "punctuation", "keyword", "punctuation"])
+
+    def test_tokens_in_brackets(self):
+        braces = self.tokens_of("{sum=~'é', or!~\"🦀\" or by='c'}[5m:1]")
+        names = [("name", "sum"), ("name", "or"), ("operator", "or"), ("name", "by")]
+        self.assertEqual([it for it in braces if it[1].isalpha()], names)
+        self.assertEqual([it[1] for it in braces if it[0] == "operator"], ["=~", "!~", "or", "="])
+        self.assertEqual(braces[-5:], [("punctuation", "["), ("duration", "5m"), ("punctuation", ":"), ("number", "1"), ("punctuation", "]")])
+
+    def test_comments(self):
+        self.assertEqual(self.tokens_of("a # é\r == 0#"), [("name", "a"), ("comment", "# é"), ("operator", "=="), ("number", "0"), ("comment", "#")])
+        self.assertEqual(self.tokens_of("{# b}\n}"), [("punctuation", "{"), ("comment", "# b}"), ("punctuation", "}")])
+        # (between brackets there are none)
+        self.assertEqual(self.tokens_of("[#]"), [("punctuation", "["), ("error", "#"), ("punctuation", "]")])
+
+    def test_tokens_of_rejected(self):
+        """After an error the tokens go on, outside, between braces or between brackets."""
+        for text, errors in (
+            ("a é$ b", ["é", "$"]),
+            ("5xyz + 1", ["5xyz"]),
+            ("a{5b='c', é} d", ["5b", "é"]),
+            ("a[5m foo] b", ["foo"]),
+            ('a{b="c\\q"} d', ['"c\\q"']),
+            ('a{b="c} d', ['"c} d']),
+            ("a{b='c'} `d", ["`d"]),
+            ("a } b", ["}"]),
+            ("\0", ["\0"]),
+        ):
+            found = self.tokens_of(text)
+            self.assertEqual([it[1] for it in found if it[0] == "error"], errors, text)
+            if errors[-1][-1] != text[-1]:
+                self.assertNotEqual(found[-1][0], "error")
+
+    def test_tokens_of_no_text(self):
+        with self.assertRaises(promql.TooLargeError):
+            promql.tokens("a" * 32_769)
+        self.assertEqual(promql.tokens("a" * 32_768), [("name", 0, 32_768)])
+        # (patterns that are too large have their tokens)
+        self.assertEqual(len(promql.tokens('a{b=~"c{3000}"}')), 6)
+        with self.assertRaises(UnicodeEncodeError):
+            promql.tokens("\ud800")
+        with self.assertRaises(TypeError):
+            promql.tokens(b"up")
+
     def test_print_tree(self):
         tree = promql.parse("foo + on (b) bar{a='é'}")
         self.assertEqual(promql.print_tree(tree), 'foo + on (b) bar{a="é"}')
