@@ -45,6 +45,17 @@ def children_of(tree: Tree) -> List[Tree]:
     return below
 
 
+def nodes_of(tree: Tree) -> List[Tree]:
+    """All nodes of a tree, each before those below it: the order of `promql.places`."""
+    found: List[Tree] = []
+    todo = [tree]
+    while todo:
+        node = todo.pop()
+        found.append(node)
+        todo += reversed(children_of(node))
+    return found
+
+
 def _quoted(text: str) -> str:
     return f'"{text.translate(_ESCAPES)}"'
 

@@ -8,8 +8,8 @@ from pathlib import Path
 import promql
 from promql.lint import RULES, RuleContext, Selection, Severity, fix, known_codes, lint, look_at_tree
 from promql.lint.fixes import edited_query
-from promql.lint.places import places_of
-from promql.lint.tokens import tokens_of
+from promql.lint.subject import Subject
+from promql.token_texts import comments_of
 
 ROOT = Path(__file__).resolve().parents[3]
 PAGE = ROOT / "docs/guide/lint.md"
@@ -46,6 +46,8 @@ FOUND = (
     ("P103", 'a + up{"b c"=~"d"} # e', '"b c"=~"d"', 'a + up{"b c"="d"} # e'),
     ("P103", "absent(up{a=~'b'})", "a=~'b'", None),
     ("P103", '{__name__=~"up"}', '__name__=~"up"', '{__name__="up"}'),
+    # (a comment ends at a carriage return, too)
+    ("P103", 'up{job=~"shop"} # x\r == 0', 'job=~"shop"', 'up{job="shop"} # x\r == 0'),
     ("P103", 'up{a=~"\U0001f600"}', 'a=~"\U0001f600"', 'up{a="\U0001f600"}'),
     ("P104", 'up{a=~"^b.*"}', 'a=~"^b.*"', 'up{a=~"b.*"}'),
     ("P104", 'up{a=~"b|c$"}', 'a=~"b|c$"', 'up{a=~"b|c"}'),
@@ -116,6 +118,7 @@ FOUND = (
     ("P503", "absent(up == 0)", "absent(up == 0)", None),
     ("P601", "(up)", "(up)", "up"),
     ("P601", "a and(b)", "(b)", "a and b"),
+    ("P601", "a - +(b)", "(b)", "a - +b"),
     ("P601", "a and (b)or c", "(b)", "a and b or c"),
     ("P601", "sum((a + b))", "(a + b)", "sum(a + b)"),
     ("P601", "((a + b)) * 2", "((a + b))", "(a + b) * 2"),
@@ -320,17 +323,15 @@ class ManyQueries(unittest.TestCase):
 
     def test_places(self):
         self.assertGreater(len(self.queries), 1_000)
-        without = 0
         for query in self.queries:
-            tree = promql.parse(query)
-            try:
-                places = places_of(query, tree)
-            except RecursionError:
-                continue
-            without += not places
-            spans = [(it.whole.start, it.whole.end) for it in places.values()]
-            self.assertTrue(all(0 <= start < end <= len(query) for start, end in spans), query)
-        self.assertLess(without, 4)
+            subject = Subject(query, promql.parse(query))
+            for node in subject.nodes:
+                whole, head, braces, *_ = subject.place(node)
+                self.assertTrue(0 <= whole.start <= head.start < head.end <= whole.end <= len(query), query)
+                self.assertFalse(braces and query[braces.start] + query[braces.end - 1] != "{}", query)
+            for node in subject.selectors:
+                for matcher in subject.matchers(node):
+                    self.assertEqual(matcher.tree["type"], query[slice(*matcher.place.operator)] if matcher.place else "=", query)
 
     def test_findings_and_fixes(self):
         context = RuleContext(alert="A", interval=60_000, template_labels=frozenset(("a", "job")))
@@ -347,7 +348,7 @@ class ManyQueries(unittest.TestCase):
                     fixes += 1
                     changed = edited_query(query, finding.fix.edits)
                     self.assertEqual(promql.parse(changed), meant_by(tree, {id(old): new for old, new in finding.fix.changes}), query)
-                    self.assertEqual(tokens_of(changed)[1], tokens_of(query)[1])
+                    self.assertEqual(comments_of(changed), comments_of(query))
         self.assertGreater(fixes, 100)
 
     def test_fixed_queries_have_no_fix(self):

@@ -84,7 +84,7 @@ class Queries(Folder):
         self.assertIn("<stdin>:2:8: error P001: expected type matrix in call to function 'rate', got vector\n  rate(foo))\n", ran.out)
 
     def test_deep(self):
-        query = "-" * 500 + "a"
+        query = "sum by (b) (" * 500 + "a" + ")" * 500
         ran = run("lint", f"--query={query}", "--query", "(up)")
         self.assertEqual((ran.status, "P601" in ran.out), (2, True))
         self.assertIn("<query 1>:1:1: not looked at: nested too deeply for the linter\n", ran.err)

@@ -6,8 +6,8 @@ import re
 from functools import lru_cache
 from typing import FrozenSet, Iterable, List, NamedTuple, Tuple
 
+from ..token_texts import comments_of
 from .table import is_meant, known_codes
-from .tokens import tokens_of
 
 _COMMENT = re.compile(r"#\s*promql:\s*ignore(-file)?(?![\w-])[ \t]*([\w, \t]*)")
 
@@ -35,10 +35,10 @@ def ignored_in(query: str) -> Ignored:
     """What the comments of a query silence."""
     if "promql:" not in query:
         return Ignored()
-    return ignored_by(word for comment in tokens_of(query)[1] for _, words in comments_of(comment) for word in words)
+    return ignored_by(word for comment in comments_of(query) for _, words in silenced_by(comment) for word in words)
 
 
-def comments_of(line: str) -> List[Tuple[bool, Tuple[str, ...]]]:
+def silenced_by(line: str) -> List[Tuple[bool, Tuple[str, ...]]]:
     """What a line silences: whether it is for the whole file, and the words for codes. Without a word all are meant."""
     found = []
     for comment in _COMMENT.finditer(line):

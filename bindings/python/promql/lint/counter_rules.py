@@ -92,8 +92,7 @@ def short_range(subject: Subject) -> Iterator[Remark]:
     """A range in which there are too few samples, or between which samples are never looked at."""
     for node in subject.of_type("matrixSelector"):
         length, text = node["range"], duration_text(node["range"])
-        place = subject.place(node)
-        span = place.range if place and place.range else subject.span(node)
+        span = subject.place(node).range or subject.span(node)
         if not subject.is_written(subject.text[span.start : span.end]) or _is_in_subquery(subject, node):
             continue
         recorded = subject.context.recorded.get(subject.metric(node) or "")

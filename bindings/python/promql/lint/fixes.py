@@ -7,8 +7,8 @@ from typing import Any, Callable, Dict, Iterator, List, NamedTuple, Optional, Se
 
 import promql
 
+from ..token_texts import comments_of
 from .findings import Finding, Fix, TextEdit, Tree
-from .tokens import tokens_of
 
 # More rounds of fixes than any query needs.
 _MOST_ROUNDS = 20
@@ -40,7 +40,7 @@ class FixChecker:
         self._query = query
         self._tree = tree
         self._reads = _MOST_READS
-        self._comments = tokens_of(query)[1] if "#" in query else []
+        self._comments = comments_of(query)
 
     def checked(self, fixes: Sequence[Optional[Fix]]) -> List[Optional[Fix]]:
         """The fixes, without those that are wrong."""
@@ -64,11 +64,11 @@ class FixChecker:
             return None
         self._reads -= 1
         changed = edited_query(self._query, [edit for fix in fixes for edit in fix.edits])
-        if self._comments and tokens_of(changed)[1] != self._comments:
-            return None
         try:
             tree = promql.parse(changed)
         except ValueError:
+            return None
+        if comments_of(changed) != self._comments:
             return None
         changes = {id(old): new for fix in fixes for old, new in fix.changes}
         return Changed(changed, tree) if _is_meant(self._tree, changes, tree) else None

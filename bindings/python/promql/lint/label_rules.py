@@ -3,20 +3,13 @@
 from __future__ import annotations
 
 from collections import Counter
-from typing import FrozenSet, Iterator, List, Sequence, Tuple
+from typing import FrozenSet, Iterator, Tuple
 
-from .findings import Remark, Severity, Span, Tree
+from .findings import Remark, Severity, Tree
 from .label_flow import Labels
 from .subject import Subject
 from .table import rule
 from .trees import NAME, fills, inner, matching_of
-
-
-def _label_spans(subject: Subject, node: Tree, labels: Sequence[str], of_group: bool = False) -> List[Span]:
-    """Where each of the labels of a node is, or the node."""
-    place = subject.place(node)
-    spans = (place.group if of_group else place.labels) if place else ()
-    return list(spans) if len(spans) == len(labels) else [subject.span(node)] * len(labels)
 
 
 def _matched(subject: Subject) -> Iterator[Tuple[Tree, Labels, Labels]]:
@@ -34,7 +27,7 @@ def lost_label(subject: Subject) -> Iterator[Remark]:
         if node["without"] or not node["grouping"]:
             continue
         below = subject.labels.of(node["expr"])
-        for label, span in zip(node["grouping"], _label_spans(subject, node, node["grouping"])):
+        for label, span in zip(node["grouping"], subject.place(node).labels):
             if subject.is_written(label) and not below.may_have(label):
                 yield Remark(span, f"no series has the label `{label}` here: what is below does not keep it")
 
@@ -43,8 +36,7 @@ def lost_label(subject: Subject) -> Iterator[Remark]:
 def unmatched_label(subject: Subject) -> Iterator[Remark]:
     """A label after `on` that one side cannot have, or one after `ignoring` that neither side can have."""
     for node, left, right in _matched(subject):
-        labels = matching_of(node)["labels"]
-        for label, span in zip(labels, _label_spans(subject, node, labels)):
+        for label, span in zip(matching_of(node)["labels"], subject.place(node).labels):
             lacking = [side for side, it in (("left", left), ("right", right)) if not it.may_have(label)]
             if not subject.is_written(label):
                 continue
@@ -64,7 +56,7 @@ def grouped_label(subject: Subject) -> Iterator[Remark]:
             continue
         ((name, labels),) = card.items()
         one, word = (right, "group_left") if name == "many-to-one" else (left, "group_right")
-        for label, span in zip(labels, _label_spans(subject, node, labels, of_group=True)):
+        for label, span in zip(labels, subject.place(node).group):
             if subject.is_written(label) and not one.may_have(label):
                 side = "right" if word == "group_left" else "left"
                 yield Remark(span, f"`{word}` takes the label `{label}` from the {side} side, which has none")

@@ -66,7 +66,7 @@ def _written_anew(subject: Subject, node: Tree, matcher: SeenMatcher, operator: 
 def _left_out(subject: Subject, node: Tree, matcher: SeenMatcher) -> Optional[Fix]:
     """A fix that leaves out a matcher of braces without `or`, with a comma beside it."""
     place = subject.place(node)
-    if not matcher.place or not place or not place.braces or "or_matchers" in node or _gives_labels(subject, node):
+    if not matcher.place or not place.braces or "or_matchers" in node or _gives_labels(subject, node):
         return None
     start, end = matcher.place.whole
     text, braces = subject.text, place.braces

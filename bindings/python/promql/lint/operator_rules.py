@@ -113,8 +113,7 @@ def bool_kept_as_filter(subject: Subject) -> Iterator[Remark]:
             continue
         side = inner(node["rhs"])
         if is_comparison(side) and side["bool"]:
-            place = subject.place(side)
-            span = place.bool if place and place.bool else subject.span(side)
+            span = subject.place(side).bool or subject.span(side)
             message = f"`{node['op']}` asks whether there is a value, and with `bool` there always is one: leave `bool` out"
             yield Remark(span, message)
 

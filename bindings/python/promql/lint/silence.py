@@ -7,7 +7,7 @@ from bisect import bisect_left
 from typing import List, Set, Tuple
 
 from ..files import Source
-from .comments import Ignored, comments_of, ignored_by
+from .comments import Ignored, ignored_by, silenced_by
 
 _LINE = re.compile(r"[^\r\n]*(?:\r\n|\r|\n|\Z)")
 
@@ -32,7 +32,7 @@ class Silences:
             bare = line[0].strip()
             is_comment = bare.startswith("#")
             words = []
-            for is_of_file, silenced in comments_of(line[0]) if "promql:" in line[0] else ():
+            for is_of_file, silenced in silenced_by(line[0]) if "promql:" in line[0] else ():
                 if is_of_file:
                     self._of_file.update(silenced)
                 else:

@@ -19,12 +19,10 @@ _PRIMARY = ("parenExpr", "numberLiteral", "stringLiteral", "vectorSelector", "ma
 def needless_parentheses(subject: Subject) -> Iterator[Remark]:
     """Parentheses around what is one thing anyway: a name, a call, all of an argument or of the query."""
     for node in subject.of_type("parenExpr"):
-        place = subject.place(node)
         reason = _why_needless(subject, node)
-        if not reason or not place:
-            continue
-        fix = Fix(_without(subject.text, place.whole), ((node, node["expr"]),))
-        yield Remark(subject.span(node), f"needless parentheses around {reason}", fix)
+        if reason:
+            fix = Fix(_without(subject.text, subject.span(node)), ((node, node["expr"]),))
+            yield Remark(subject.span(node), f"needless parentheses around {reason}", fix)
 
 
 def _without(query: str, span: Span) -> Tuple[TextEdit, ...]:
@@ -65,8 +63,7 @@ def _why_needless(subject: Subject, node: Tree) -> Optional[str]:
 def empty_braces(subject: Subject) -> Iterator[Remark]:
     """Braces without a matcher."""
     for node in subject.selectors:
-        place = subject.place(node)
-        if node["name"] is not None and not node["matchers"] and "or_matchers" not in node and place and place.braces:
-            if subject.text[place.braces.start + 1 : place.braces.end - 1].strip() == "":
-                fix = Fix((TextEdit(*place.braces, ""),), ())
-                yield Remark(place.braces, "needless braces: there is no matcher in them", fix)
+        braces = subject.place(node).braces
+        if node["name"] is not None and not node["matchers"] and "or_matchers" not in node and braces:
+            if subject.text[braces.start + 1 : braces.end - 1].strip() == "":
+                yield Remark(braces, "needless braces: there is no matcher in them", Fix((TextEdit(*braces, ""),), ()))

@@ -6,7 +6,7 @@ from dataclasses import dataclass, field
 from functools import cached_property
 from typing import Callable, Dict, FrozenSet, Iterator, List, Mapping, NamedTuple, Optional, Sequence, Set, Tuple
 
-from ..labels import children_of
+from ..labels import children_of, nodes_of
 from .findings import Span, Tree
 from .label_flow import LabelFlow
 from .places import MatcherPlace, NodePlace, places_of
@@ -47,7 +47,7 @@ def always(text: str) -> bool:
 
 
 class SeenMatcher(NamedTuple):
-    """A matcher of a selector, with its place if that is known."""
+    """A matcher of a selector, with its place, which a name in quotes has not."""
 
     name: str
     operator: str
@@ -81,7 +81,7 @@ class Subject:
 
     @cached_property
     def _places(self) -> Dict[int, NodePlace]:
-        return places_of(self.text, self.tree)
+        return places_of(self.text, self.nodes)
 
     @cached_property
     def labels(self) -> LabelFlow:
@@ -95,13 +95,7 @@ class Subject:
     @cached_property
     def nodes(self) -> List[Tree]:
         """All nodes, each before those below it."""
-        found: List[Tree] = []
-        todo = [self.tree]
-        while todo:
-            node = todo.pop()
-            found.append(node)
-            todo += reversed(children_of(node))
-        return found
+        return nodes_of(self.tree)
 
     @cached_property
     def _by_type(self) -> Dict[str, List[Tree]]:
@@ -118,18 +112,16 @@ class Subject:
         """The selectors, those with a range among them."""
         return [*self.of_type("vectorSelector"), *self.of_type("matrixSelector")]
 
-    def place(self, node: Tree) -> Optional[NodePlace]:
-        return self._places.get(id(node))
+    def place(self, node: Tree) -> NodePlace:
+        return self._places[id(node)]
 
     def span(self, node: Tree) -> Span:
-        """Where a node is, or the whole query."""
-        place = self.place(node)
-        return place.whole if place else self.whole
+        """Where a node is."""
+        return self.place(node).whole
 
     def head(self, node: Tree) -> Span:
-        """Where the name or the operator of a node is, or the whole query."""
-        place = self.place(node)
-        return place.head if place else self.whole
+        """Where the name or the operator of a node is."""
+        return self.place(node).head
 
     def is_as_written(self, node: Tree) -> bool:
         """Whether the text of a node is as somebody wrote it."""
@@ -183,15 +175,9 @@ class Subject:
     def _read_groups(self, node: Tree) -> List[List[SeenMatcher]]:
         groups = [[*node["matchers"], *group] for group in node.get("or_matchers", [[]])]
         listed = [*node["matchers"], *(it for group in node.get("or_matchers", ()) for it in group)]
-        place = self.place(node)
-        places = place.matchers if place and len(place.matchers) == len(listed) else (None,) * len(listed)
-        seen = {id(it): self._seen(it, where) for it, where in zip(listed, places)}
+        places = zip(listed, self.place(node).matchers)
+        seen = {id(it): SeenMatcher(it["name"], it["type"], it["value"], it, place) for it, place in places}
         return [[seen[id(it)] for it in group] for group in groups]
-
-    def _seen(self, matcher: Tree, place: Optional[MatcherPlace]) -> SeenMatcher:
-        if place and self.text[place.operator.start : place.operator.end] != matcher["type"]:
-            place = None
-        return SeenMatcher(matcher["name"], matcher["type"], matcher["value"], matcher, place)
 
     def matchers(self, node: Tree) -> List[SeenMatcher]:
         """Each matcher of a selector, once."""

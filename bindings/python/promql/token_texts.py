@@ -1,0 +1,71 @@
+"""The tokens of a query with their texts. The library alone reads them: what they are, `promql.tokens` tells."""
+
+from __future__ import annotations
+
+from functools import lru_cache
+from typing import List, NamedTuple, Tuple
+
+import promql
+
+# The operators of matchers.
+MATCHER_SIGNS = ("=", "!=", "=~", "!~")
+
+
+class Token(NamedTuple):
+    """The token `query[start:end]`."""
+
+    kind: str
+    text: str
+    start: int
+    end: int
+
+    @property
+    def lower(self) -> str:
+        return self.text.lower()
+
+    @property
+    def is_sign(self) -> bool:
+        """Whether it is punctuation, or an operator that is no word."""
+        return self.kind == "punctuation" or self.kind == "operator" and not self.text[0].isalpha()
+
+    @property
+    def is_word(self) -> bool:
+        return self.kind != "error" and (self.text[0].isalpha() or self.text[0] in "_:") and self.text != ":"
+
+    @property
+    def is_quoted(self) -> bool:
+        """Whether it is a string, or one with an error."""
+        return self.text[0] in "\"'`"
+
+    @property
+    def is_open(self) -> bool:
+        """Whether it is a string that is not closed."""
+        return self.is_quoted and (len(self.text) == 1 or self.text[-1] != self.text[0])
+
+
+def tokens_of(query: str) -> Tuple[Token, ...]:
+    """The tokens of a text and its comments; none where it is longer than a query may be, or has a surrogate."""
+    try:
+        return _tokens_of(query)
+    except ValueError:
+        return ()
+
+
+# (few: those of a long query that is typed in are large)
+@lru_cache(maxsize=32)
+def _tokens_of(query: str) -> Tuple[Token, ...]:
+    return tuple(Token(kind, query[start:end], start, end) for kind, start, end in promql.tokens(query))
+
+
+def code_of(query: str) -> List[Token]:
+    """The tokens without comments."""
+    return [token for token in tokens_of(query) if token.kind != "comment"]
+
+
+def comments_of(query: str) -> List[str]:
+    return [token.text for token in tokens_of(query) if token.kind == "comment"] if "#" in query else []
+
+
+def pattern_operators(query: str) -> List[Token]:
+    """The operators of a query before patterns."""
+    return [token for token in tokens_of(query) if token.text in ("=~", "!~")] if "~" in query else []
