@@ -30,7 +30,7 @@ class Token(NamedTuple):
 
     @property
     def is_word(self) -> bool:
-        return self.kind != "error" and (self.text[0].isalpha() or self.text[0] in "_:") and self.text != ":"
+        return self.kind not in ("error", "punctuation") and (self.text[0].isalpha() or self.text[0] in "_:")
 
     @property
     def is_quoted(self) -> bool:

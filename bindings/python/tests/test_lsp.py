@@ -18,10 +18,8 @@ from promql.lint import table
 from promql.lsp import findings, messages
 from promql.lsp.functions import AGGREGATIONS, FUNCTIONS, WORDS
 from promql.lsp.hover import type_of
-from promql.lsp.nodes import nodes_of
 from promql.lsp.positions import Lines
 from promql.lsp.prometheus import NotHere, Prometheus
-from promql.lsp.tokens import AGGREGATORS, KEYWORDS, WORD_OPERATORS
 
 ROOT = Path(__file__).resolve().parents[3]
 URI = "file:///query.promql"
@@ -246,7 +244,7 @@ class Telling(WithServer):
         """The types that are told are those that the library's messages have."""
         names = {"instant vector": "vector", "range vector": "matrix", "scalar": "scalar", "string": "string"}
         for query in ("1", "a", "a[1m]", "'x'", "-a", "(1)", "a+1", "1+1", "time()", "sum(a)", "rate(a[1m])", "a[1m:]", "scalar(a)", "-1"):
-            found = type_of(nodes_of(query)[0])
+            found = type_of(promql.parse(query))
             try:
                 promql.check(f"{'vector' if found == 'instant vector' else 'rate'}({query})")
                 told = "matrix"
@@ -552,8 +550,13 @@ class Tables(unittest.TestCase):
         self.assertEqual(len(seen), 89)
 
     def test_words(self):
-        self.assertEqual(set(AGGREGATORS), set(AGGREGATIONS))
-        self.assertEqual({*WORD_OPERATORS, *KEYWORDS}, set(WORDS))
+        """The words are those of the library, which the reference lists."""
+        page = (ROOT / "docs/reference/tokens.md").read_text(encoding="utf-8")
+        words = re.findall(r"^\| \d+ \| `T_\w+` \| `([a-z]\w+)` \| (operator|keyword|aggregator) \|$", page, re.M)
+        self.assertEqual({word for word, kind in words if kind == "aggregator"}, set(AGGREGATIONS))
+        self.assertEqual({word for word, kind in words if kind != "aggregator"}, set(WORDS))
+        for word, kind in words:
+            self.assertEqual(promql.tokens(f"{word}(")[0], (kind, 0, len(word)))
         for function in (*FUNCTIONS.values(), *AGGREGATIONS.values()):
             self.assertRegex(function.sentence, r"^[A-Z].*\.$")
 

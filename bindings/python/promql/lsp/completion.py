@@ -4,15 +4,15 @@ from __future__ import annotations
 
 from typing import Any, Dict, Iterable, Iterator, List, NamedTuple, Optional
 
+from ..token_texts import MATCHER_SIGNS, Token
 from .context import BRACES, BRACKETS, LABEL_LIST, Context, context_at
 from .functions import AGGREGATIONS, FUNCTIONS, WORDS, Function
 from .names import Known
-from .tokens import AGGREGATOR, COMPARISONS, ERROR, KEYWORD, SIGN, STRING, WORD_OPERATOR, Token
 
 # The kinds of the protocol.
 _FUNCTION, _FIELD, _VARIABLE, _VALUE, _KEYWORD, _OPERATOR = 3, 5, 6, 12, 14, 24
 _DURATIONS = ("1m", "5m", "10m", "15m", "30m", "1h", "6h", "12h", "1d", "1w")
-_MATCHER_SIGNS = ("=", "!=", "=~", "!~")
+_COMPARISONS = ("==", "!=", "<=", "<", ">=", ">")
 _MATCHING_WORDS = ("on", "ignoring", "group_left", "group_right")
 # A list is not longer than this, and then says that there are more.
 MOST_ITEMS = 500
@@ -39,7 +39,7 @@ def complete(text: str, offset: int, known: Known) -> Optional[Completion]:
     if context is None:
         return None
     word = context.word
-    if word and word.kind in (STRING, ERROR):
+    if word and word.is_quoted:
         return Completion(list(_in_string(context, known)), word.start + 1, offset)
     start = word.start if word else offset
     return Completion(list(_items(context, known)), start, offset)
@@ -50,7 +50,7 @@ def _in_string(context: Context, known: Known) -> Iterator[Item]:
     inner, sign, label = context.inner, context.previous(), context.previous(2)
     if not inner or inner.kind != BRACES or not sign:
         return
-    if sign.kind == SIGN and sign.text in _MATCHER_SIGNS and label:
+    if sign.text in MATCHER_SIGNS and label:
         name = label.text.strip("\"'`")
         values = known.metrics if name == "__name__" else known.values.get(name, set())
         yield from _each(values, _VALUE, f"value of {name}")
@@ -78,30 +78,30 @@ def _items(context: Context, known: Known) -> Iterator[Item]:
 
 def _in_braces(context: Context, known: Known) -> Iterator[Item]:
     last = context.previous()
-    if last and last.text in ("{", ",") or last and last.kind == WORD_OPERATOR:
+    if last and (last.text in ("{", ",") or last.kind == "operator" and last.is_word):
         for label in sorted(known.labels | {"__name__"}):
             yield Item(label, _FIELD, "label", "", f'{label}="$0"')
-    elif last and last.kind == SIGN:
+    elif last and last.is_sign:
         name = context.previous(2)
         values = known.values.get(name.text, set()) if name else set()
         yield from (Item(f'"{value}"', _VALUE, "value") for value in sorted(values))
-    elif last and last.kind != STRING:
-        yield from _each(_MATCHER_SIGNS, _OPERATOR, "")
+    elif last and last.kind != "string":
+        yield from _each(MATCHER_SIGNS, _OPERATOR, "")
 
 
 def _ends_operand(last: Optional[Token]) -> bool:
     """Whether an operator may come after this token, and no operand."""
-    if last is None or last.kind in (WORD_OPERATOR, ERROR):
+    if last is None or last.kind in ("operator", "error"):
         return False
-    if last.kind == KEYWORD:
+    if last.kind == "keyword":
         return last.lower in ("smoothed", "anchored")
-    return last.kind != SIGN or last.text in (")", "}", "]")
+    return last.kind != "punctuation" or last.text in (")", "}", "]")
 
 
 def _after_operand(context: Context) -> Iterator[Item]:
     last = context.previous()
     words = ["and", "or", "unless", "atan2", "offset"]
-    if last and (last.kind == AGGREGATOR or _closed_by(context) == AGGREGATOR):
+    if last and (last.kind == "aggregator" or _closed_by(context) == "aggregator"):
         words += ["by", "without"]
     if last and last.text == "]":
         words += ["smoothed", "anchored"]
@@ -113,21 +113,21 @@ def _closed_by(context: Context) -> str:
     depth = 0
     for number in range(len(context.before) - 1, -1, -1):
         token = context.before[number]
-        depth += {")": 1, "(": -1}.get(token.text, 0) if token.kind == SIGN else 0
+        depth += {")": 1, "(": -1}.get(token.text, 0)
         if depth == 0:
             head = context.before[number - 1] if number and token.text == "(" else None
-            return "" if head is None else head.lower if head.kind == KEYWORD else head.kind
+            return "" if head is None else head.lower if head.kind == "keyword" else head.kind
     return ""
 
 
 def _operands(context: Context, known: Known) -> Iterator[Item]:
     last = context.previous()
-    if last and (last.kind == WORD_OPERATOR or last.kind == SIGN and last.text in (*COMPARISONS, "+", "-", "*", "/", "%", "^")):
-        yield from map(_word, [*(["bool"] if last.text in COMPARISONS else []), "on", "ignoring"])
-    if last and last.kind == SIGN and last.text == "@":
+    if last and last.kind == "operator" and last.text not in ("@", "="):
+        yield from map(_word, [*(["bool"] if last.text in _COMPARISONS else []), "on", "ignoring"])
+    if last and last.text == "@":
         yield from (Item(f"{name}()", _KEYWORD, "", WORDS[name]) for name in ("start", "end"))
         return
-    if last and last.kind == KEYWORD and last.lower == "offset":
+    if last and last.kind == "keyword" and last.lower == "offset":
         yield from _each(_DURATIONS, _VALUE, "duration")
         return
     for function in (*FUNCTIONS.values(), *AGGREGATIONS.values()):

@@ -2,15 +2,27 @@
 
 from __future__ import annotations
 
-from typing import List, NamedTuple, Optional, Tuple
+from typing import Any, Dict, NamedTuple, Optional, Sequence, Tuple
 
+import promql
+
+from ..labels import children_of, nodes_of
+from ..token_texts import Token, code_of
 from .context import AGGREGATION, CALL, context_at
 from .functions import AGGREGATIONS, FUNCTIONS, TYPES, WORDS, Function
-from .names import is_name_matcher
-from .nodes import Matcher, Node, path_at, type_of_leaf
-from .tokens import AGGREGATOR, COMMENT, KEYWORD, STRING, WORD_OPERATOR, Token, token_at, tokens_of
+from .selectors import Selector, plain, selectors_of
+from .tokens import token_at
 
 _SAYINGS = {"=": "is", "!=": "is not", "=~": "matches", "!~": "does not match"}
+# The types of what has one whatever is in it.
+_TYPES = {
+    "aggregation": "vector",
+    "vectorSelector": "vector",
+    "matrixSelector": "matrix",
+    "subquery": "matrix",
+    "numberLiteral": "scalar",
+    "stringLiteral": "string",
+}
 
 
 class Hover(NamedTuple):
@@ -22,31 +34,23 @@ class Hover(NamedTuple):
 
 
 def hover(text: str, offset: int) -> Optional[Hover]:
-    tokens = tokens_of(text)
+    tokens = code_of(text)
     number = token_at(tokens, offset)
-    if number < 0 or tokens[number].kind == COMMENT:
+    if number < 0:
         return None
-    token, path = tokens[number], path_at(text, offset)
-    path = [node for node in path if node.start <= token.start and token.end <= node.end]
-    told = _of_word(token, path)
-    if told:
-        return Hover(told, token.start, token.end)
-    if not path:
-        return None
-    node = path[-1]
-    return Hover(_of_node(text, node), node.start, node.end)
+    token, selectors = tokens[number], selectors_of(text)
+    is_metric = any(selector.name == token for selector in selectors)
+    told = "" if is_metric else _of_word(token, *(tokens[at].text if 0 <= at < len(tokens) else "" for at in (number - 1, number + 1)))
+    return Hover(told, token.start, token.end) if told else _of_part(text, token, selectors)
 
 
-def _of_word(token: Token, path: List[Node]) -> str:
-    """What is told of a function, or of a word of the language where it is one."""
-    node = path[-1] if path else None
-    is_head = node is not None and node.head == token
-    if is_head and node and node.kind == "call" and token.text in FUNCTIONS:
+def _of_word(token: Token, before: str, after: str) -> str:
+    """What is told of a function, or of a word of the language."""
+    if token.text in FUNCTIONS and after == "(" and before != "@":
         return _of_function(FUNCTIONS[token.text])
-    if is_head and node and node.kind == "aggregation" and token.lower in AGGREGATIONS:
+    if token.kind == "aggregator":
         return _of_function(AGGREGATIONS[token.lower])
-    is_word = token.kind in (KEYWORD, WORD_OPERATOR) and token.lower in WORDS
-    if is_word and not (node and node.kind == "vectorSelector" and is_head):
+    if token.kind in ("keyword", "operator") and token.lower in WORDS:
         return f"`{token.lower}`\n\n{WORDS[token.lower]}"
     return ""
 
@@ -56,48 +60,43 @@ def _of_function(function: Function) -> str:
     return f"```promql\n{function.signature}\n```\n\n{function.sentence}{note}"
 
 
-def _of_node(text: str, node: Node) -> str:
-    kind = type_of(node)
-    told = [f"Type: {kind}."] if kind else []
-    if node.kind in ("vectorSelector", "matrixSelector"):
-        told.insert(0, _selects(node))
-    return "\n\n".join(told) or "This has no type."
+def _of_part(text: str, token: Token, selectors: Sequence[Selector]) -> Optional[Hover]:
+    """What is told of the smallest node with a token in it; where the text is not accepted, of the selector."""
+    try:
+        nodes = [node for node in nodes_of(promql.parse(text, places=True)) if node["start"] <= token.start and token.end <= node["end"]]
+    except (ValueError, RecursionError):
+        around = [it for it in selectors if it.start <= token.start and token.end <= it.end]
+        return Hover(_selects(around[0]), around[0].start, around[0].end) if around else None
+    if not nodes:
+        return None
+    node = nodes[-1]
+    told = [f"Type: {type_of(node)}."]
+    if node["type"] in ("vectorSelector", "matrixSelector"):
+        told = [*(_selects(it) for it in selectors if node["start"] <= it.start and it.end <= node["end"]), *told]
+    return Hover("\n\n".join(told), node["start"], node["end"])
 
 
-def _selects(node: Node) -> str:
+def _selects(selector: Selector) -> str:
     """What a selector selects."""
-    names = [matcher for matcher in node.matchers if is_name_matcher(matcher)]
-    name = node.head.text if node.head else names[0].value.text[1:-1] if names else ""
-    first = f"Selects the series of `{name}`" if name else "Selects series of any name"
-    others = [matcher for matcher in node.matchers if matcher not in names]
-    lines = [f"- `{_plain(matcher)}` {_SAYINGS[matcher.sign.text]} `{matcher.value.text}`" for matcher in others if matcher.sign]
+    names = [selector.name.text] if selector.name else [plain(it.value) for it in selector.matchers if it.is_of_metric]
+    first = f"Selects the series of `{names[0]}`" if names else "Selects series of any name"
+    others = [it for it in selector.matchers if not it.is_of_metric]
+    lines = [f"- `{plain(it.name)}` {_SAYINGS[it.sign.text]} `{it.value.text}`" for it in others if it.name and it.sign]
     return "\n".join([f"{first}, where", *lines]) if lines else f"{first}."
 
 
-def _plain(matcher: Matcher) -> str:
-    assert matcher.name
-    return matcher.name.text[1:-1] if matcher.name.kind == STRING else matcher.name.text
-
-
-def type_of(node: Node) -> str:
-    """The type of a node's value, or nothing where it cannot be told."""
-    todo = [node]
+def type_of(tree: Dict[str, Any]) -> str:
+    """The type of a node's value."""
+    todo = [tree]
     while todo:
-        part = todo.pop()
-        if part.kind == "call":
-            function = FUNCTIONS.get(part.head.text) if part.head else None
-            kind = TYPES[function.value] if function else ""
-        elif part.kind == "binaryExpr" and len(part.children) == 2:
-            todo += part.children
+        node = todo.pop()
+        if node["type"] in ("binaryExpr", "unaryExpr", "parenExpr"):
+            todo += children_of(node)
             continue
-        elif part.kind in ("unaryExpr", "parenExpr"):
-            todo += part.children
-            continue
-        else:
-            kind = type_of_leaf(part.kind)
-        if kind != "scalar" or part is node:
-            return kind
-    return "scalar"
+        kind = node["func"]["returnType"] if node["type"] == "call" else _TYPES[node["type"]]
+        if kind != "scalar":
+            return TYPES[kind]
+    return TYPES["scalar"]
 
 
 def signature(text: str, offset: int) -> Optional[Tuple[Function, int]]:
@@ -105,7 +104,7 @@ def signature(text: str, offset: int) -> Optional[Tuple[Function, int]]:
     context = context_at(text, offset)
     for opening in reversed(context.openings if context else ()):
         if opening.head and opening.kind in (CALL, AGGREGATION):
-            table = AGGREGATIONS if opening.head.kind == AGGREGATOR else FUNCTIONS
+            table = AGGREGATIONS if opening.head.kind == "aggregator" else FUNCTIONS
             function = table.get(opening.head.lower if opening.kind == AGGREGATION else opening.head.text)
             if function is None:
                 return None

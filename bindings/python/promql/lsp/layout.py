@@ -8,12 +8,11 @@ from typing import Dict, Iterator, List, NamedTuple, Optional, Tuple
 import promql
 
 from ..files import BLANKS, FileError
-from ..format_command import PEOPLE, PRETTY, Printer, has_comment
+from ..format_command import PEOPLE, PRETTY, Printer
 from ..queries import Edit, Query, edited
 from ..rule_files import RuleFile
-from .nodes import path_at
+from ..token_texts import comments_of
 from .rules import Rule, file_of, lines_before, read_file, rules_at
-from .tokens import COMMENT, LONGEST, tokens_of
 
 WIDTH = 100
 # How many rules are looked at while the editor waits.
@@ -58,7 +57,7 @@ class _Printers:
         self._of_noted = Printer(WIDTH, False, str, PEOPLE)
 
     def of(self, query: Query) -> Printer:
-        return self._of_noted if "#" in query.text and has_comment(query.text) else self._of_others
+        return self._of_noted if comments_of(query.text) else self._of_others
 
     def laid_out(self, query: Query) -> Optional[str]:
         """The query as it is to be written, where it is written in another way."""
@@ -188,22 +187,18 @@ def query_edits(text: str) -> List[Edit]:
 def node_edits(text: str, span: Span) -> List[Edit]:
     """The edit that lays out the smallest node of a query with this part in it."""
     start, end = _trimmed(text, span)
-    around = [node for node in path_at(text, start) if node.end >= end]
-    if not around or len(text) > LONGEST:
+    around = [place for place in promql.places(text) if place[0] <= start and end <= place[1]]
+    if not around:
         return query_edits(text)
-    node = around[-1]
-    line = text[text.rfind("\n", 0, node.start) + 1 : node.start]
+    start, end = around[-1]
+    line = text[text.rfind("\n", 0, start) + 1 : start]
     indentation = line[: min(len(line) - len(line.lstrip(" ")), WIDTH // 2)]
-    laid_out = promql.format_query(text[node.start : node.end], width=WIDTH - len(indentation))
-    edit = Edit(node.start, node.end, laid_out.replace("\n", "\n" + indentation))
+    laid_out = promql.format_query(text[start:end], width=WIDTH - len(indentation))
+    edit = Edit(start, end, laid_out.replace("\n", "\n" + indentation))
     new = edited(text, [edit])
-    if promql.canonical(new) != promql.canonical(text) or _comments(new) != _comments(text):
+    if promql.canonical(new) != promql.canonical(text) or comments_of(new) != comments_of(text):
         raise LeftError(_NOT_SAME)
-    return [edit] if edit.text != text[node.start : node.end] else []
-
-
-def _comments(text: str) -> List[str]:
-    return [text[token.start : token.end] for token in tokens_of(text) if token.kind == COMMENT]
+    return [edit] if edit.text != text[start:end] else []
 
 
 def _trimmed(text: str, span: Span) -> Span:

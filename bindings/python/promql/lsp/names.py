@@ -2,12 +2,11 @@
 
 from __future__ import annotations
 
-from typing import Dict, Iterable, Iterator, List, NamedTuple, Set, Tuple
+from typing import Dict, Iterable, List, NamedTuple, Set, Tuple
 
-from .nodes import Matcher, Node, nodes_of
-from .tokens import KEYWORD, SIGN, STRING, Token, string_content, tokens_of
-
-LABELS = ("by", "without", "on", "ignoring", "group_left", "group_right")
+from ..token_texts import code_of
+from .selectors import labels_in, plain, selectors_of
+from .tokens import string_content
 
 
 class Use(NamedTuple):
@@ -27,52 +26,22 @@ class Names(NamedTuple):
 
 
 def names_of(text: str) -> Names:
+    """What a query names; the name of a metric in a string with an escape is none here."""
     metrics: List[Use] = []
-    labels: Set[str] = set(listed_labels(text))
+    labels = {plain(token) for token in labels_in(code_of(text))}
     values: Set[Tuple[str, str]] = set()
-    for node in nodes_of(text):
-        for part in node.walk():
-            metrics += _metrics(part)
-            for matcher in part.matchers:
-                if matcher.name:
-                    labels.add(_plain(matcher.name))
-                    if matcher.sign and matcher.sign.text in ("=", "!=") and _plain(matcher.value):
-                        values.add((_plain(matcher.name), _plain(matcher.value)))
+    for selector in selectors_of(text):
+        if selector.name:
+            metrics.append(Use(selector.name.text, selector.name.start, selector.name.end))
+        for matcher in selector.matchers:
+            value = plain(matcher.value)
+            if matcher.is_of_metric and "\\" not in value:
+                metrics.append(Use(value, *string_content(matcher.value)))
+            if matcher.name and matcher.sign:
+                labels.add(plain(matcher.name))
+                if value and matcher.sign.text in ("=", "!="):
+                    values.add((plain(matcher.name), value))
     return Names(tuple(metrics), tuple(sorted(labels - {"__name__"})), tuple(sorted(values)))
-
-
-def _metrics(node: Node) -> Iterator[Use]:
-    """The names of metrics that a selector has; a name with an escape is none here."""
-    if node.kind not in ("vectorSelector", "matrixSelector"):
-        return
-    if node.head:
-        yield Use(node.head.text, node.head.start, node.head.end)
-    for matcher in node.matchers:
-        if is_name_matcher(matcher) and "\\" not in matcher.value.text:
-            yield Use(_plain(matcher.value), *string_content(matcher.value))
-
-
-def is_name_matcher(matcher: Matcher) -> bool:
-    """Whether a matcher says which metric is selected."""
-    return not matcher.name or (_plain(matcher.name) == "__name__" and matcher.sign is not None and matcher.sign.text == "=")
-
-
-def _plain(token: Token) -> str:
-    """A word, or a string without its quotes."""
-    return token.text[1:-1] if token.kind == STRING else token.text
-
-
-def listed_labels(text: str) -> Iterator[str]:
-    """The labels in lists of labels."""
-    is_list, before = False, ""
-    for token in tokens_of(text):
-        if token.kind == SIGN and token.text == "(":
-            is_list = before in LABELS
-        elif token.kind == SIGN and token.text != ",":
-            is_list = False
-        elif is_list and token.kind != SIGN:
-            yield _plain(token)
-        before = token.lower if token.kind == KEYWORD else ""
 
 
 class Known(NamedTuple):

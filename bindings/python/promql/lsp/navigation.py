@@ -2,7 +2,6 @@
 
 from __future__ import annotations
 
-import re
 from typing import Any, Dict, Iterable, Iterator, List, NamedTuple, Optional, Tuple
 
 import promql
@@ -12,8 +11,6 @@ from .documents import Document
 from .messages import INVALID_PARAMS, REQUEST_FAILED, ProtocolError
 from .names import names_of
 from .rules import PlacedQuery, read_lines
-
-_METRIC = re.compile(r"[A-Za-z_:][A-Za-z0-9_:]*")
 
 
 class Named(NamedTuple):
@@ -59,7 +56,7 @@ def location(document: Document, start: int, end: int) -> Dict[str, Any]:
 
 def rename(documents: List[Document], name: str, new: str) -> Dict[str, Any]:
     """The edits of each document that give a metric another name. Raises where one of them would do anything else."""
-    if not _METRIC.fullmatch(new) or new.endswith(":") or new.startswith(":"):
+    if not _is_metric(new):
         raise ProtocolError(INVALID_PARAMS, f"not a name of a metric: {new!r}")
     changes: Dict[str, Any] = {}
     for document in documents:
@@ -76,6 +73,15 @@ def rename(documents: List[Document], name: str, new: str) -> Dict[str, Any]:
     if not changes:
         raise ProtocolError(REQUEST_FAILED, "there is no metric of this name")
     return {"changes": changes}
+
+
+def _is_metric(name: str) -> bool:
+    """Whether a name is one of a metric; in YAML a colon at an end may be a sign."""
+    try:
+        promql.rename_metric("up", "up", name)
+    except ValueError:
+        return False
+    return not name.endswith(":") and not name.startswith(":")
 
 
 def _look_at(document: Document, name: str, new: str) -> None:

@@ -4,20 +4,19 @@ from __future__ import annotations
 
 from typing import Iterator, NamedTuple, Tuple
 
-from .names import LABELS
-from .tokens import AGGREGATOR, COMMENT, DURATION, ERROR, KEYWORD, NAME, NUMBER, SIGN, STRING, WORD_OPERATOR, Token, tokens_of
+from ..token_texts import Token, tokens_of
+from .selectors import LABELS
 
 TYPES = ["function", "keyword", "operator", "string", "regexp", "number", "variable", "property", "comment"]
 _BY_KIND = {
-    AGGREGATOR: "function",
-    KEYWORD: "keyword",
-    WORD_OPERATOR: "operator",
-    STRING: "string",
-    NUMBER: "number",
-    DURATION: "number",
-    COMMENT: "comment",
+    "aggregator": "function",
+    "keyword": "keyword",
+    "operator": "operator",
+    "string": "string",
+    "number": "number",
+    "duration": "number",
+    "comment": "comment",
 }
-_PUNCTUATION = "(){}[],:"
 
 
 class Role(NamedTuple):
@@ -36,20 +35,20 @@ def _roles(tokens: Tuple[Token, ...]) -> Iterator[Role]:
     labels, before = False, ""
     for number, token in enumerate(tokens):
         after = tokens[number + 1].text if number + 1 < len(tokens) else ""
-        if token.kind == SIGN:
+        if token.is_sign:
             labels = token.text == "{" or token.text == "(" and before in LABELS or labels and token.text not in "})"
-            name = "operator" if token.text not in _PUNCTUATION else ""
-        elif labels and token.kind != COMMENT and (token.kind != STRING or before == "("):
-            name = "operator" if token.kind == WORD_OPERATOR and before not in ("(", ",", "{") else "property"
-        elif token.kind == STRING:
+            name = "operator" if token.kind == "operator" else ""
+        elif labels and token.kind != "comment" and (token.kind != "string" or before == "("):
+            name = "operator" if token.kind == "operator" and before not in ("(", ",", "{") else "property"
+        elif token.kind == "string":
             name = "regexp" if before in ("=~", "!~") else "string"
-        elif token.kind == NAME:
+        elif token.kind == "name":
             name = "function" if after == "(" else "variable"
-        elif token.kind == AGGREGATOR and after != "(" and after.lower() not in ("by", "without"):
+        elif token.kind == "aggregator" and after != "(" and after.lower() not in ("by", "without"):
             name = "variable"
         else:
             name = _BY_KIND.get(token.kind, "")
-        if name and token.kind != ERROR:
+        if name and token.kind != "error":
             yield Role(TYPES.index(name), token.start, token.end)
-        if token.kind != COMMENT:
+        if token.kind != "comment":
             before = token.lower

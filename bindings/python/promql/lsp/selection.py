@@ -2,10 +2,14 @@
 
 from __future__ import annotations
 
-from typing import List, Tuple
+from typing import Iterator, List, Tuple
 
-from .nodes import path_at
-from .tokens import COMMENT, SIGN, STRING, string_content, token_at, tokens_of
+import promql
+
+from ..token_texts import code_of, tokens_of
+from .context import brackets_of
+from .selectors import selectors_of
+from .tokens import string_content, token_at
 
 Span = Tuple[int, int]
 # Of more spans than these only the smallest ones are told, and the whole query.
@@ -14,27 +18,29 @@ _MOST_SPANS = 200
 
 def spans_around(text: str, offset: int) -> List[Span]:
     """The spans around a place, the smallest one first, and last the whole query."""
-    tokens, found = tokens_of(text), []
+    tokens, found = tokens_of(text), [(0, len(text))]
     number = token_at(tokens, offset)
-    if number >= 0:
-        token = tokens[number]
-        if token.kind == STRING and token.start < offset < token.end:
-            found.append(string_content(token))
-        if token.kind != SIGN:
-            found.append((token.start, token.end))
-        if token.kind == COMMENT:
-            return _nested([*found, (0, len(text))], offset)
-    for node in reversed(path_at(text, offset)):
-        for matcher in node.matchers:
-            if matcher.name:
-                found.append((matcher.name.start, matcher.value.end))
-        for start, end in node.parts:
-            # (without the brackets, and with them)
-            found += [(start + 1, max(end - 1, start + 1)), (start, end)]
-        if node.kind == "parenExpr":
-            found.append((node.start + 1, max(node.end - 1, node.start + 1)))
-        found.append((node.start, node.end))
-    return _nested([*found, (0, len(text))], offset)
+    token = tokens[number] if number >= 0 else None
+    if token and token.kind == "string" and token.start < offset < token.end:
+        found.append(string_content(token))
+    if token and not token.is_sign:
+        found.append((token.start, token.end))
+    if not token or token.kind != "comment":
+        found += _parts(text)
+    return _nested(found, offset)
+
+
+def _parts(text: str) -> Iterator[Span]:
+    """Matchers, what is in brackets, without these and with them, and nodes; or selectors and calls where the text is not accepted."""
+    selectors, closed = selectors_of(text), brackets_of(code_of(text)).closed
+    yield from ((it.name.start, it.value.end) for selector in selectors for it in selector.matchers if it.name)
+    for opening, closing in closed:
+        yield from ((opening.sign.end, closing.start), (opening.sign.start, closing.end))
+    try:
+        yield from promql.places(text)
+    except ValueError:
+        yield from ((selector.start, selector.end) for selector in selectors)
+        yield from ((opening.head.start, closing.end) for opening, closing in closed if opening.head)
 
 
 def _nested(spans: List[Span], offset: int) -> List[Span]:
