@@ -10,6 +10,7 @@ import promql
 
 from .files import Fault
 from .queries import Query
+from .token_texts import pattern_operators
 
 # The most that the patterns of a file may measure together, of each query text once (docs/guide/security.md, "What a file may cost").
 MOST_FILE_PATTERNS = 100_000
@@ -36,7 +37,7 @@ def limited_to(**limits: int) -> Iterator[None]:
 def pattern_size(query: str) -> int:
     """What the patterns of a query measure together, which the library tells without compiling one; 0 where it has none, or is too
     long."""
-    if "=~" not in query and "!~" not in query:
+    if not pattern_operators(query):
         return 0
     with limited_to(max_patterns=0):
         try:

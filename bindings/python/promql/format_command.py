@@ -19,6 +19,7 @@ from .jobs import Report, add_arguments, as_bytes, skipped_file, work_on
 from .options import whole_number
 from .queries import Query, SameQuery, edited
 from .targets import Target, targets_of
+from .token_texts import comments_of
 from .visible import visible
 
 _COMMENT = "it has a comment, which would be lost"
@@ -98,7 +99,7 @@ class Printer:
         if QueryChecker.error(query.text):
             # (that one may be kept, and so is not raised)
             promql.check(query.text)
-        if query.kept or not has_comment(query.text):
+        if query.kept or not comments_of(query.text):
             return query.kept
         if self.enforces or self.style == PRETTY:
             return _COMMENT
@@ -216,25 +217,6 @@ def _failed(document: Document, query: Query, error: Exception) -> Fault:
     if isinstance(error, ValueError):
         return document.checker.rejected(query, error)
     return query.whole("nested too deeply")
-
-
-def has_comment(query: str) -> bool:
-    """Whether an accepted query has a comment.
-
-    A `#` is in a string or a comment. In a string a `;` may be as well, and outside of strings nowhere: so the first `#` of a
-    comment is where the library rejects the query that has a `;` in the place of each. (It tells of this before anything that such
-    a string may mean.)
-    """
-    at = _rejected_at(query.replace("#", ";")) if "#" in query else None
-    return at is not None and query[at : at + 1] == "#"
-
-
-def _rejected_at(query: str) -> Optional[int]:
-    try:
-        promql.check(query)
-    except promql.QueryError as error:
-        return error.start
-    return None
 
 
 def _put_out(name: str, document: Document, text: str, arguments: argparse.Namespace) -> Tuple[Status, str]:

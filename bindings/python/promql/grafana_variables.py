@@ -8,23 +8,19 @@ string with variables is checked with words in it, and comes back as it is writt
 from __future__ import annotations
 
 import re
+from functools import lru_cache
 from itertools import islice, product
 from typing import Dict, Iterator, List, Match, NamedTuple, Optional, Sequence, Tuple
 
 import promql
 
 from .checked_queries import QueryChecker
-from .queries import PlacedText
+from .queries import Edit, PlacedText, edited
+from .token_texts import MATCHER_SIGNS, Token, code_of, pattern_operators
 
 _NAMES = r"[A-Za-z_]\w*"
 # `$x`, `${x}`, `${x:format}`, `${x.field}`, `[[x]]` and `[[x:format]]`.
-VARIABLE = re.compile(rf"\$({_NAMES})|\$\{{({_NAMES})(?:[^\w}}{{$][^}}{{$]*)?\}}|\[\[({_NAMES})(?::\w+)?\]\]", re.ASCII)
-_ANY = VARIABLE.pattern.replace(f"({_NAMES})", _NAMES)
-_TOKEN = re.compile(
-    rf"""(?P<string>"(?:[^"\\\n]|\\.)*"|'(?:[^'\\\n]|\\.)*'|`[^`]*`)|(?P<comment>\#[^\n]*)
-    |(?P<run>(?:{_ANY}|[A-Za-z0-9_.])+)|(?P<space>[ \t\r\n]+)|(?P<sign>.)""",
-    re.X | re.S | re.ASCII,
-)
+VARIABLE = re.compile(rf"\$({_NAMES})|\$\{{({_NAMES})(?:[.:][^}}{{$]*)?\}}|\[\[({_NAMES})(?::\w+)?\]\]", re.ASCII)
 # After a backslash nobody knows what a variable makes.
 _ESCAPED = re.compile(r"\\(?:\$|\[\[)")
 # What may make one number of what is before and after it.
@@ -78,7 +74,7 @@ class Variables:
     def __init__(self, original: str, choice: Choice) -> None:
         self.original = original
         self._choice = choice
-        places = list(places_of(original))
+        places = places_of(original)
         words = {(found[0], "word") for place in places if place.kinds == _TEXT for found in _variables(original, place)}
         used = sorted(words.union(self._use(original, place) for place in places))
         self._texts = dict(zip(used, _texts(original, used)))
@@ -168,9 +164,9 @@ def _error(query: str, checker: QueryChecker) -> Optional[ValueError]:
 
     Most are rejected for their syntax, or for types. So a query with patterns is looked at before without them.
     """
-    bare = query.replace("=~", "= ").replace("!~", "!=")
-    if bare != query:
-        error = checker.error(bare)
+    patterns = pattern_operators(query)
+    if patterns:
+        error = checker.error(edited(query, (Edit(it.start, it.end, "= " if it.text == "=~" else "!=") for it in patterns)))
         if isinstance(error, promql.QueryError) and not error.reason.startswith(_OF_VALUES):
             return error
     return checker.error(query) if checker.admits(query) else None
@@ -189,7 +185,7 @@ def _is_doubtful(error: promql.QueryError, span: Span) -> bool:
 
 def _trials(query: str) -> Iterator[Variables]:
     """The ways to read the variables of a query, the most likely one first."""
-    places = list(places_of(query))
+    places = places_of(query)
     if len(VARIABLE.findall(query)) > _MOST_TEXTS or any(not place.kinds for place in places):
         return
     open_places = sorted({(query[place.start : place.end], place.kinds) for place in places if len(place.kinds) > 1})
@@ -224,57 +220,82 @@ def _texts(query: str, uses: Sequence[Tuple[str, str]]) -> Iterator[str]:
         yield texts.get(kind, kind)
 
 
-def places_of(query: str) -> Iterator[Place]:
+# (a query is read several times, for each trial of what its variables may be)
+@lru_cache(maxsize=32)
+def places_of(query: str) -> Tuple[Place, ...]:
     """The variables of a query, in their order."""
-    tokens = [found for found in _TOKEN.finditer(query) if found.lastgroup != "space"]
+    return tuple(_places(query))
+
+
+def _places(query: str) -> Iterator[Place]:
+    tokens = _tokens(query)
     opened: List[str] = []
     for number, token in enumerate(tokens):
-        if token.lastgroup == "string" and VARIABLE.search(token[0]):
-            yield Place(*token.span(), _TEXT, not _ESCAPED.search(token[0]))
-        elif token.lastgroup == "run" and VARIABLE.search(token[0]):
-            yield from _in_run(query, tokens, number, opened[-1] if opened else "")
-        elif token[0] in ("(", "[", "{"):
-            opened.append(token[0])
-        elif token[0] in (")", "]", "}") and opened:
+        if token.text in ("(", "[", "{"):
+            opened.append(token.text)
+        elif token.text in (")", "]", "}") and opened:
             opened.pop()
+        elif not VARIABLE.search(token.text):
+            continue
+        elif token.is_quoted and not token.is_open:
+            yield Place(token.start, token.end, _TEXT, not _ESCAPED.search(token.text))
+        else:
+            yield from _in_run(query, tokens, number, opened[-1] if opened else "")
 
 
-def _in_run(query: str, tokens: Sequence[Match[str]], number: int, opened: str) -> Iterator[Place]:
+def _tokens(query: str) -> List[Token]:
+    """The tokens of a query, which are read with words in the place of its variables. Of words and numbers those that touch are one."""
+    found: List[Token] = []
+    for token in code_of(VARIABLE.sub(lambda variable: "z" * len(variable[0]), query)):
+        start = token.start
+        if found and found[-1].end == start and _is_in_run(token) and _is_in_run(found[-1]):
+            start = found.pop().start
+        found.append(token._replace(start=start))
+    return [token._replace(text=query[token.start : token.end]) for token in found]
+
+
+def _is_in_run(token: Token) -> bool:
+    """Whether a token is a word, a number, or an error that may be a part of one."""
+    return token.text.isascii() and not token.is_quoted and (token.text[-1].isalnum() or token.text[-1] in "_.")
+
+
+def _in_run(query: str, tokens: Sequence[Token], number: int, opened: str) -> Iterator[Place]:
     """The variables of a token, or the token as a whole where it is none but with a value, as `[${x}s]`."""
     token = tokens[number]
-    before, after = (tokens[at][0].lower() if 0 <= at < len(tokens) else "" for at in (number - 1, number + 1))
-    if before in ("-", "+") and number > 1 and tokens[number - 2][0].lower() in ("offset", "@"):
-        before = tokens[number - 2][0].lower()
-    found = _as_token(query, token, before, after, opened)
+    before, after = (tokens[at].lower if 0 <= at < len(tokens) else "" for at in (number - 1, number + 1))
+    if before in ("-", "+") and number > 1 and tokens[number - 2].lower in ("offset", "@"):
+        before = tokens[number - 2].lower
+    found = None if token.is_open else _as_token(query, token, before, after, opened)
     if found:
-        yield Place(*token.span(), *found)
+        yield Place(token.start, token.end, *found)
         return
-    for variable in VARIABLE.finditer(token[0]):
-        yield Place(token.start() + variable.start(), token.start() + variable.end(), _WORD, False)
+    for variable in VARIABLE.finditer(token.text):
+        yield Place(token.start + variable.start(), token.start + variable.end(), _WORD, False)
 
 
-def _as_token(query: str, token: Match[str], before: str, after: str, opened: str) -> Optional[Tuple[Tuple[str, ...], bool]]:
+def _as_token(query: str, token: Token, before: str, after: str, opened: str) -> Optional[Tuple[Tuple[str, ...], bool]]:
     """What a token with variables may be as a whole, and whether that is sure; or nothing where it is a name with variables in it."""
-    rest, is_variable = VARIABLE.sub("", token[0]), VARIABLE.fullmatch(token[0])
-    if not is_variable and _SIGN.match(query, token.end()) and _PART_OF_NUMBER.fullmatch(rest):
+    rest, is_variable = VARIABLE.sub("", token.text), VARIABLE.fullmatch(token.text)
+    if ":" in rest:
+        return None
+    if not is_variable and _SIGN.match(query, token.end) and _PART_OF_NUMBER.fullmatch(rest):
         # (`1$x-5` may be one number, and has no white space then)
         return (), False
     if opened == "[" or before == "offset":
         return _DURATION, True
     if before == "@":
         return _TIME, after != "("
-    if "." in rest or token[0][0].isdigit():
+    if "." in rest or token.text[0].isdigit():
         return _NUMBER, False
     if opened != "{" and after in ("(", "by", "without"):
         return _functions(query), False
-    is_part = ":" in (query[token.start() - 1 : token.start()], query[token.end() : token.end() + 1])
-    return None if is_part or not is_variable else (_kinds(token[0], before, after, opened), False)
+    return (_kinds(token.text, before, after, opened), False) if is_variable else None
 
 
 def _kinds(variable: str, before: str, after: str, opened: str) -> Tuple[str, ...]:
     """What a variable that is a token of its own may be, by what is around it; the most likely one first."""
     if opened == "{":
-        return _WORD if after in ("=", "!") else _STRING if before in ("=", "~") else _MATCHER
+        return _WORD if after in MATCHER_SIGNS else _STRING if before in MATCHER_SIGNS else _MATCHER
     if variable.strip("${}[]").partition(":")[0] in _NUMBERS:
         return (*_NUMBER, *_WORD)
     return (*_WORD, *_NUMBER, *_STRING, *_RANGE)

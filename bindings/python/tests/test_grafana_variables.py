@@ -12,7 +12,7 @@ from command_line import run
 from grafana_queries import LAID_OUT, LEFT, QUERIES, VALUES, WRONG
 from promql.files import BLANKS
 from promql.checked_queries import QueryChecker
-from promql.grafana_variables import VARIABLE, read_variables
+from promql.grafana_variables import VARIABLE, places_of, read_variables
 from promql.queries import PlacedText
 from test_dashboards import Folder
 
@@ -277,6 +277,17 @@ class StandIns(unittest.TestCase):
             self.assertEqual(made.offsets, sorted(made.offsets))
             for character, offset in zip(made.text, made.offsets):
                 self.assertTrue(character == query[offset] or VARIABLE.search(query, max(0, offset - 3)), query)
+
+    def test_no_variables(self):
+        """A name in braces that another sign than `:` or `.` follows is none, also where a brace comes later."""
+        for query in ('a{b="${c", d="e"}', 'a{b="${c}"} + b{c="${ d }"}'):
+            reading = read(query)
+            self.assertEqual([query[it.start : it.end] for it in places_of(query)], ['"${c}"'] * query.count("${c}"))
+            promql.check(reading.text.text)
+
+    def test_words_with_colons(self):
+        """A variable is a part of the word that it touches, and no length of time after `offset`."""
+        self.assertEqual([it.kinds for it in places_of("a offset $b:c + max_over_time(d[$e:$f])")], [("word",), ("duration",), ("duration",)])
 
     def test_dear(self):
         """What is made to be dear takes no time."""
