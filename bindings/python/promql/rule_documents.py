@@ -2,10 +2,10 @@
 
 from __future__ import annotations
 
-import re
 from enum import Enum
 from typing import Iterator, NamedTuple, Sequence, Set
 
+from .token_texts import code_of
 from .yaml_mappings import Mappings
 from .yaml_nodes import Node
 
@@ -36,18 +36,19 @@ class RuleDocument(NamedTuple):
     note: str = ""
 
 
-# What is after a selector or a stage of LogQL, and nowhere in PromQL: a filter of lines, or a parser.
-_PIPELINE = re.compile(
-    r"""\}\s*(?:(?:\|[=~>]|!=|!~|!>)\s*["`]
-    |\|\s*(?:json|logfmt|regexp|pattern|unpack|unwrap|line_format|label_format|decolorize|drop|keep|distinct)\b)""",
-    re.X,
-)
-_STRING = re.compile(r""""(?:[^"\\\n]|\\.)*"|'(?:[^'\\\n]|\\.)*'|`[^`]*`|#[^\n]*""")
+# What is after a selector of LogQL, and nowhere in PromQL: a filter of lines, or a stage.
+_FILTERS = tuple(sign + quote for sign in ("|=", "|~", "|>", "!=", "!~", "!>") for quote in '"`')
+_STAGES = "json logfmt regexp pattern unpack unwrap line_format label_format decolorize drop keep distinct".split()
 
 
 def is_logql(query: str) -> bool:
     """Whether a query is surely of Loki, and not of Prometheus."""
-    return "{" in query and bool(_PIPELINE.search(_STRING.sub(lambda it: "" if it[0][0] == "#" else '""', query)))
+    tokens = [token.text for token in code_of(query)] if "{" in query else []
+    return any(text == "}" and _is_pipeline(tokens[number : number + 3]) for number, text in enumerate(tokens, 1))
+
+
+def _is_pipeline(texts: Sequence[str]) -> bool:
+    return "".join(texts).startswith(_FILTERS) or len(texts) > 1 and texts[0] == "|" and texts[1] in _STAGES
 
 
 def documents_of(root: Node, mappings: Mappings) -> Iterator[RuleDocument]:
