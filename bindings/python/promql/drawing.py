@@ -1,4 +1,4 @@
-"""Draws the tree of a query as a picture in SVG, from its JSON form (docs/reference/json.md).
+"""Draws the tree of a query as a picture in SVG.
 
 The root is at the left, and each level has a column. A node without nodes below has a row of its own; any other is in the middle
 between the first and the last one below. So no two boxes overlap, and no line crosses a box.
@@ -10,9 +10,11 @@ import html
 import unicodedata
 from dataclasses import dataclass, field
 from itertools import accumulate
-from typing import List, Optional, Tuple
+from typing import List, Optional
 
-from .labels import Tree, children_of, kind_of, label_of
+import promql
+
+from .labels import children_of, kind_of, labels_of, nodes_of
 from .visible import visible
 
 _CHARACTER = 7.8  # the width of a character of the labels
@@ -31,8 +33,8 @@ class Box:
 
     kind: str
     label: str
-    level: int
-    parent: Optional[Box]
+    level: int = 0
+    parent: Optional[Box] = None
     below: List[Box] = field(default_factory=list)
     x: float = 0
     y: float = 0
@@ -55,17 +57,18 @@ class Box:
         return _BOX_HEIGHT
 
 
-def layout(tree: Tree) -> List[Box]:
-    """The boxes of a tree at their places, each before those below it."""
-    boxes = _boxes(tree)
+def layout(query: str) -> List[Box]:
+    """The boxes of a query's tree at their places, each before those below it. Raises NumberTooWideError where it has no JSON form."""
+    boxes = _boxes(query)
     _place_rows(boxes)
     _place_columns(boxes)
     return boxes
 
 
-def svg(tree: Tree) -> str:
-    """The picture. Its colours are those of the page: the classes are `edge`, `node`, the kind of a node, `kind` and `label`."""
-    boxes = layout(tree)
+def svg(query: str) -> str:
+    """The picture. Its colours are those of the page: the classes are `edge`, `node`, the kind of a node, `kind` and `label`. Raises as
+    `layout` does."""
+    boxes = layout(query)
     width = max(box.x + box.width for box in boxes) + _MARGIN
     height = max(box.y for box in boxes) + _BOX_HEIGHT / 2 + _MARGIN
     size = f'width="{width:g}" height="{height:g}" viewBox="0 0 {width:g} {height:g}"'
@@ -74,17 +77,16 @@ def svg(tree: Tree) -> str:
     return f'<svg xmlns="http://www.w3.org/2000/svg" role="img" aria-label="the tree" {size}>{edges}{nodes}</svg>'
 
 
-def _boxes(tree: Tree) -> List[Box]:
-    boxes: List[Box] = []
-    waiting: List[Tuple[Tree, Optional[Box]]] = [(tree, None)]
-    while waiting:
-        node, parent = waiting.pop()
-        box = Box(kind_of(node), visible(label_of(node)), parent.level + 1 if parent else 0, parent)
-        if parent:
-            parent.below.append(box)
-        boxes.append(box)
-        waiting.extend((child, box) for child in reversed(children_of(node)))
-    return boxes
+def _boxes(query: str) -> List[Box]:
+    line = promql.canonical(query)
+    nodes = nodes_of(promql.parse(line))
+    boxes = {id(node): Box(kind_of(node), visible(label)) for node, label in zip(nodes, labels_of(line, nodes))}
+    for node in nodes:
+        box = boxes[id(node)]
+        box.below = [boxes[id(child)] for child in children_of(node)]
+        for below in box.below:
+            below.level, below.parent = box.level + 1, box
+    return list(boxes.values())
 
 
 def _place_rows(boxes: List[Box]) -> None:

@@ -19,8 +19,7 @@ from http.server import BaseHTTPRequestHandler, ThreadingHTTPServer
 from pathlib import Path
 from typing import Any, Dict, List, Tuple
 
-from . import QueryError, canonical, drawing, format_query
-from ._calls import calls
+from . import NumberTooWideError, QueryError, canonical, drawing, format_query, places
 from .options import add_target
 from .visible import visible
 
@@ -50,8 +49,6 @@ _HEADERS = {
 }
 # A page elsewhere may let a name of its own stand for this machine's address, but not for these.
 _LOOPBACK = re.compile(r"(?:localhost|127\.0\.0\.1|\[::1\])(?::\d{1,5})?", re.IGNORECASE)
-# (in a text of the JSON form the quotes have backslashes before them, so these are members)
-_NODE = re.compile(r'"type":"(?:aggregation|unaryExpr|binaryExpr|parenExpr|subquery|\w+Literal|\w+Selector|call)"', re.ASCII)
 
 
 def describe(query: str) -> Dict[str, Any]:
@@ -74,13 +71,13 @@ def _error(error: QueryError) -> Dict[str, Any]:
 
 
 def _drawing(query: str) -> Dict[str, Any]:
-    text = calls.json(query)
-    if not isinstance(text, str):
-        return {"drawing": None, "note": f"no tree to draw: {text[1]}"}
-    nodes = sum(1 for _ in _NODE.finditer(text))
+    nodes = len(places(query))
     if nodes > MAX_NODES:
         return {"drawing": None, "note": f"too large to draw: {nodes:,} nodes"}
-    return {"drawing": drawing.svg(json.loads(text)), "note": None}
+    try:
+        return {"drawing": drawing.svg(query), "note": None}
+    except NumberTooWideError as error:
+        return {"drawing": None, "note": f"no tree to draw: {error}"}
 
 
 class _Rejection(Exception):

@@ -1,7 +1,6 @@
 """Tests of the pictures of trees: their labels, and where their boxes and lines are."""
 
 import json
-import re
 import unittest
 import xml.etree.ElementTree as ElementTree
 from itertools import combinations
@@ -9,7 +8,7 @@ from pathlib import Path
 
 import promql
 from promql import drawing
-from promql.labels import children_of, kind_of, label_of
+from promql.labels import children_of, kind_of, labels_of, nodes_of
 
 ROOT = Path(__file__).resolve().parents[3]
 SVG = "{http://www.w3.org/2000/svg}"
@@ -26,6 +25,7 @@ LABELS = (
     ("-foo", ["sign -", "selector foo"]),
     ("foo[1d2h3m4s5ms:] @ -0.5", ["subquery [1d2h3m4s5ms:] @ -0.500", "selector foo"]),
     ("foo[1h:5m]", ["subquery [1h:5m]", "selector foo"]),
+    ("foo[90.0005:1.0005]", ["subquery [90.0005:1.0005]", "selector foo"]),
     ("time()", ["call time"]),
     ("clamp_min(foo, 1)", ["call clamp_min", "selector foo", "number 1"]),
     ("sum(foo)", ["aggregation sum", "selector foo"]),
@@ -39,14 +39,12 @@ LABELS = (
     ("a + fill_left (0) b", ["operator + fill_left (0)", "selector a", "selector b"]),
     ("a + fill_left (0) fill_right (1) b", ["operator + fill_left (0) fill_right (1)", "selector a", "selector b"]),
 )
-# A length of time with a part below a millisecond, which the JSON form cuts off.
-FINE_LENGTH = re.compile(r"(?:\[|:|offset -?)\d+\.\d")
 HOSTILE = "label_replace(foo{a=\"<script>alert('&')</script>\",b='\\u0000\\u202e]]>'}, 'a', \"\\ufffe<!--\", 'b', 'c')"
 
 
-def line_of(tree):
+def line_of(tree, labels):
     """The canonical line, made up of the labels."""
-    kind, label, below = kind_of(tree), label_of(tree), [line_of(child) for child in children_of(tree)]
+    kind, label, below = kind_of(tree), labels[id(tree)], [line_of(child, labels) for child in children_of(tree)]
     if kind == "operator":
         return f"{below[0]} {label} {below[1]}"
     if kind == "parentheses":
@@ -62,8 +60,9 @@ def made_up_lines():
     """The queries of the rows that are accepted, with their lines of labels; without those that nest too deeply for this."""
     for line in (ROOT / "crates" / "promql_batch" / "stdin").read_bytes().split(b"\n"):
         try:
-            query = json.loads(line)
-            yield query, line_of(promql.parse(query))
+            query = promql.canonical(json.loads(line))
+            nodes = nodes_of(promql.parse(query))
+            yield query, line_of(nodes[0], dict(zip(map(id, nodes), labels_of(query, nodes))))
         except (ValueError, TypeError, RecursionError):
             pass
 
@@ -81,18 +80,16 @@ def are_apart(box, left, top, right, bottom):
 class Labels(unittest.TestCase):
     def test_each_kind(self):
         for query, wanted in LABELS:
-            found = [f"{box.kind} {box.label}" for box in drawing.layout(promql.parse(query))]
+            found = [f"{box.kind} {box.label}" for box in drawing.layout(query)]
             self.assertEqual(found, wanted, query)
         kinds = {label.split(" ")[0] for _, labels in LABELS for label in labels}
         self.assertEqual(len(kinds), 10)
 
     def test_they_make_up_the_line(self):
         compared = 0
-        for query, made_up in made_up_lines():
-            line = promql.canonical(query)
-            if not FINE_LENGTH.search(line):
-                self.assertEqual(made_up, line, query[:500])
-                compared += 1
+        for line, made_up in made_up_lines():
+            self.assertEqual(made_up, line, line[:500])
+            compared += 1
         self.assertGreater(compared, 7000)
 
 
@@ -118,17 +115,17 @@ class Places(unittest.TestCase):
         queries.append(" + ".join(f"sum by (a) (rate(foo{{b='{n}'}}[5m]) * {n})" for n in range(20)))
         for query in queries:
             with self.subTest(query=query[:100]):
-                self.look_at(drawing.layout(promql.parse(query)))
+                self.look_at(drawing.layout(query))
 
     def test_parents_are_in_the_middle(self):
         for query in example_queries():
-            for box in drawing.layout(promql.parse(query)):
+            for box in drawing.layout(query):
                 if box.below:
                     self.assertEqual(box.y, (box.below[0].y + box.below[-1].y) / 2)
 
     def test_everything_is_in_the_picture(self):
         for query in [*example_queries(), HOSTILE]:
-            picture = ElementTree.fromstring(drawing.svg(promql.parse(query)))
+            picture = ElementTree.fromstring(drawing.svg(query))
             width, height = float(picture.get("width")), float(picture.get("height"))
             for rect in picture.iter(f"{SVG}rect"):
                 x, y, w, h = (float(rect.get(name)) for name in ("x", "y", "width", "height"))
@@ -136,24 +133,15 @@ class Places(unittest.TestCase):
 
     def test_labels_are_in_their_boxes(self):
         for query in ("'日本語'", "'" + "é" * 100 + "'", "'e\u0301'", "1"):
-            (box,) = drawing.layout(promql.parse(query))
+            (box,) = drawing.layout(query)
             self.assertLess(box.label_width, box.width)
-        wide, narrow = (drawing.layout(promql.parse(query))[0] for query in ("'日本'", "'ab'"))
+        wide, narrow = (drawing.layout(query)[0] for query in ("'日本'", "'ab'"))
         self.assertGreater(wide.label_width, narrow.label_width)
-
-    def test_high_trees(self):
-        tree = {"type": "numberLiteral", "val": "1"}
-        for _ in range(20_000):
-            tree = {"type": "unaryExpr", "op": "-", "expr": tree}
-        picture = drawing.svg(tree)
-        self.assertEqual(picture.count("<rect "), 20_001)
-        while "expr" in tree:  # (a tree this high is not dropped at once in some versions of Python)
-            tree = tree["expr"]
 
 
 class Texts(unittest.TestCase):
     def test_nothing_is_left_unescaped(self):
-        picture = ElementTree.fromstring(drawing.svg(promql.parse(HOSTILE)))
+        picture = ElementTree.fromstring(drawing.svg(HOSTILE))
         self.assertEqual({it.tag[len(SVG) :] for it in picture.iter()}, {"svg", "path", "g", "title", "rect", "text"})
         labels = [it.text for it in picture.iter(f"{SVG}text") if it.get("class") == "label"]
         self.assertEqual(labels[3], r'"\u{fffe}<!--"')
@@ -162,12 +150,12 @@ class Texts(unittest.TestCase):
         self.assertEqual(titles[1], "foo{a=\"<script>alert('&')</script>\",b=\"" + r'\x00\u{202e}]]>"}')
 
     def test_no_style_of_its_own(self):
-        self.assertNotRegex(drawing.svg(promql.parse(HOSTILE)), r" style=|<style| on[a-z]+=")
+        self.assertNotRegex(drawing.svg(HOSTILE), r" style=|<style| on[a-z]+=")
 
     def test_long_labels(self):
-        (box,) = drawing.layout(promql.parse("x" * 1000))
+        (box,) = drawing.layout("x" * 1000)
         self.assertEqual((box.label, box.shown), ("x" * 1000, "x" * 59 + "…"))
-        self.assertIn(f"<title>{'x' * 1000}</title>", drawing.svg(promql.parse("x" * 1000)))
+        self.assertIn(f"<title>{'x' * 1000}</title>", drawing.svg("x" * 1000))
 
 
 if __name__ == "__main__":

@@ -17,7 +17,6 @@ from pathlib import Path
 
 import promql
 from promql import drawing, page
-from promql._calls import calls
 from promql.visible import visible
 from serving import enter, served
 from test_promql import BROKEN, broken
@@ -98,7 +97,7 @@ class Queries(Served):
         shown = self.ask("sum(foo)/sum(bar{a='é🦀'})")
         self.assertEqual(shown["line"], 'sum(foo) / sum(bar{a="é🦀"})')
         self.assertEqual(shown["layout"], promql.format_query("sum(foo)/sum(bar{a='é🦀'})"))
-        self.assertEqual(shown["drawing"], drawing.svg(promql.parse("sum(foo)/sum(bar{a='é🦀'})")))
+        self.assertEqual(shown["drawing"], drawing.svg("sum(foo)/sum(bar{a='é🦀'})"))
         self.assertIsNone(shown["note"])
 
     def test_laid_out(self):
@@ -153,15 +152,6 @@ class Queries(Served):
     def test_number_too_wide(self):
         shown = self.ask("a[18446744073709551616ms]")
         self.assertEqual((shown["drawing"], shown["note"]), (None, "no tree to draw: number too wide for JSON"))
-
-    def test_nodes_are_counted(self):
-        for query in (
-            "'\"type\":\"call\"'",
-            'foo{type="call",b="\\"type\\":\\"call\\""}[5m]',
-            "-sum by (type) (a) / (time() > bool -1 ^ a) or topk(2, rate(b[1m:]))",
-        ):
-            text = calls.json(query)
-            self.assertEqual(len(page._NODE.findall(text)), len(drawing.layout(json.loads(text))))
 
     def test_threads(self):
         queries = [f"sum(a{n}) + {n}" for n in range(40)]
