@@ -1,6 +1,7 @@
 pub mod Batch
 pub mod BatchArguments
 pub mod BatchSteps
+pub mod EnforceSteps
 pub mod EnforcedLines
 pub mod FormattedQueries
 pub mod LinesWithin

@@ -1,16 +1,20 @@
 //! The answer to one line of a batch: docs/reference/programs.md, "Answers".
 
-ghost use Rattle.std.specs.Prelude.{◌≡◌, ◌≤◌, Option, Some, None, Ok, Err, IfOk, IfErr, IfSome, option_map, string_bytes};
+ghost use Rattle.std.specs.Prelude.{◌≡◌, ◌<◌, ◌≤◌, Option, Some, None, Ok, Err, IfOk, IfErr, IfSome, option_map, length, string_bytes};
 ghost use Rattle.std.specs.Str.{IsUtf8};
 ghost use Rattle.serde_json.specs.Data.{depth};
 ghost use Rattle.serde_json.specs.Read.{max_depth, read};
 ghost use Rattle.serde_json.specs.View.{view};
 ghost use Rattle.promql_text.specs.Texts.{Text};
 ghost use Rattle.promql_ast.specs.Height.{height};
+ghost use Rattle.promql_ast.specs.Text.{text as line_text};
+ghost use Rattle.promql_ast.specs.Tree.{Tree};
 ghost use Rattle.promql_ast.specs.View.{tree_of};
 ghost use Rattle.promql_syntax.specs.ParseAnswers.{IsAnswerTo};
 ghost use Rattle.promql_syntax.specs.declared.parser.TheConstants.{MAX_DEPTH};
 ghost use Rattle.promql_run.specs.Extensions.{HasNoExtension};
+ghost use Rattle.promql_run.specs.declared.format.Format as formats;
+ghost use Rattle.promql_lines.specs.EnforceSteps.{longest_line};
 ghost use Rattle.promql_lines.specs.BatchSteps.{FailsWith, IsAsked, IsAskedAnswer, IsAskedPrint, IsModeAnswer, IsOkLine, IsPlacedAnswer, IsQueryAnswer, IsTreeAnswer, PrintsFormat};
 ghost use Rattle.promql_lines.specs.Batch.{IsErrorText, IsLineAnswer, IsPlainAnswer, PrintsAsked, PrintsQuery, error_value, limits_of};
 ghost use Rattle.promql_lines.specs.QueryErrors.{Prints, ReadsQuery, query_error_number, rejected_in};
@@ -20,7 +24,7 @@ ghost use Rattle.promql_lines.specs.declared.settings.Settings as batches;
 ghost use Rattle.promql_report.specs.Rejecting.{IsRead};
 
 use crate::answer_text::{answer_of_json, answer_within};
-use crate::enforced_line::enforced_within;
+use crate::enforced_line::{NotEnforced, enforced_within};
 use crate::mode::Mode;
 use crate::placed_text::placed_text;
 use crate::query_error::QueryError;
@@ -34,7 +38,7 @@ use promql_json::JsonError;
 use promql_report::rejection::read_query;
 use promql_run::format::Format;
 use promql_run::rendering::shown_text;
-use promql_span::limits::Limits;
+use promql_span::limits::{Limits, LongOutput};
 use serde_json::{Category, Value, json};
 use std::alloc::{AllocError, Global};
 
@@ -60,21 +64,46 @@ fn read_value(alloc: Global, line: &str) -> Result<Option<Value>, AllocError>
     }
 }
 
-/// The expression with the matcher of the text in every selector, if there is one.
+/// How many bytes the line of a tree with a matcher may have that is printed in a format.
+fn longest_line(limits: &Limits, format: Format) -> usize
+    ensures { result ≡ longest_line limits.now format }
+{
+    match format {
+        Format::Line => limits.max_output,
+        Format::Pretty(_) | Format::Json => usize::MAX,
+    }
+}
+
+/// The error of a line of so many bytes, which are too many.
+fn long_line(limits: &Limits, len: usize) -> QueryError
+    ensures { (format : formats.Format) (u : Tree) → len ≡ length (line_text u) → longest_line limits.now format < len
+        → PrintsFormat limits.now format u (Err result) }
+{
+    let most = limits.max_output;
+    QueryError::LongOutput(LongOutput { len, most })
+}
+
+/// The expression with the matcher of the text in every selector, if there is one. No line is made that would be too long to be
+/// printed.
 fn enforced(
     alloc: Global,
     limits: &Limits,
+    format: Format,
     expr: Expr,
     matcher: Option<&str>,
 ) -> Result<Expr, QueryError>
     ensures ok { IfOk result (λ e.
         IsAsked limits.now (option_map (λ s. s.now) matcher.entry) (tree_of expr) (Ok (tree_of e))) }
     ensures err { IfErr result (λ e.
-        IsAsked limits.now (option_map (λ s. s.now) matcher.entry) (tree_of expr) (Err e)) }
+        IsAskedPrint limits.now (option_map (λ s. s.now) matcher.entry) format (tree_of expr) (Err e)) }
 {
-    match matcher {
-        Some(text) => enforced_within(alloc, limits, expr, text),
-        None => Ok(expr),
+    let Some(text) = matcher else {
+        return Ok(expr);
+    };
+    match enforced_within(alloc, limits, expr, text, longest_line(limits, format)) {
+        Ok(enforced) => Ok(enforced),
+        Err(NotEnforced::Query(error)) => Err(error),
+        Err(NotEnforced::TooLong(len)) => Err(long_line(limits, len)),
     }
 }
 
@@ -127,7 +156,7 @@ fn answer_asked(
     ensures err { IfErr result (λ e. IsAskedPrint limits.now (option_map (λ s. s.now) matcher.entry) format
         (tree_of expr) (Err e)) }
 {
-    let expr = enforced(alloc, limits, expr, matcher)?;
+    let expr = enforced(alloc, limits, format, expr, matcher)?;
     let answer = answer_tree(alloc, limits, format, &expr);
     drop_expr(expr);
     answer

@@ -1,6 +1,7 @@
 -- A matcher in every selector, a file a topic.
 pub mod BareCalls
 pub mod EnforcedChecks
+pub mod EnforcedLengths
 pub mod EnforcedLists
 pub mod EnforcedMatchers
 pub mod EnforcedSelectors

@@ -1,4 +1,5 @@
 pub mod AddedByNode
+pub mod AddedBytes
 pub mod AddedParens
 pub mod Answered
 pub mod CheckedNodes
@@ -6,6 +7,7 @@ pub mod CollectedNames
 pub mod Collecting
 pub mod EnforceErrors
 pub mod Enforced
+pub mod EnforcedWithin
 pub mod Enforcing
 pub mod Everywhere
 pub mod Faithful

@@ -224,7 +224,11 @@ impl PartChange for Enforced<'_> {
 }
 
 /// Puts the matcher into every selector. Where an allocation fails, some selectors may have it.
-fn enforce_expr(alloc: Global, expr: &mut Expr, matcher: &Matcher) -> Result<(), AllocError>
+pub(crate) fn enforce_expr(
+    alloc: Global,
+    expr: &mut Expr,
+    matcher: &Matcher,
+) -> Result<(), AllocError>
     ensures { OnOk result
         (tree_of expr.new ≡ enforced (plain_matcher_of matcher.now) (tree_of expr.old)) }
 {
@@ -279,7 +283,7 @@ fn enforce_list(
 }
 
 /// Whether an equal matcher is among these.
-fn has_matcher(matchers: &[Matcher], matcher: &Matcher) -> bool
+pub(crate) fn has_matcher(matchers: &[Matcher], matcher: &Matcher) -> bool
     ensures { result ≡ list_any (matcher_eq (plain_matcher_of matcher.now)) (map plain_matcher_of matchers.now) }
 {
     matchers.iter().any(|own| is_same(matcher, own))

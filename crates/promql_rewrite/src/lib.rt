@@ -10,6 +10,7 @@
 
 pub use collecting::{Collected, CollectedSelector, collect};
 pub use enforcing::{EnforceError, enforce, enforce_query};
+pub use enforcing_within::{EnforceWithinError, enforce_text_within};
 pub use faithful::{NotFaithful, check_meaning, faithful_line, faithful_pretty};
 pub use mapping::{SelectorKind, SelectorMapper, map_selectors};
 pub use matcher_text::{EnforceTextError, MatcherError, enforce_text, read_matcher};
@@ -21,7 +22,9 @@ mod bare_info;
 mod changing;
 mod clashing;
 pub mod collecting;
+mod enforced_len;
 pub mod enforcing;
+pub mod enforcing_within;
 pub mod faithful;
 pub mod laws;
 pub mod mapping;

@@ -82,7 +82,7 @@ pub fn map_selectors<V: SelectorMapper>(
 /// Maps each selector. Where a call fails, those before it may be changed.
 #[cycle(map)]
 #[tactic(auto, using(promql_ast::proofs::nodes::NodeParts::tree_of_call, promql_ast::proofs::nodes::NodeParts::tree_of_extension, promql_ast::proofs::nodes::NodeParts::tree_of_aggregate))]
-fn map_expr<V: SelectorMapper>(
+pub(crate) fn map_expr<V: SelectorMapper>(
     alloc: Global,
     expr: &mut Expr,
     kind: SelectorKind,

@@ -5,6 +5,7 @@
 mod batch;
 mod check;
 mod failures;
+mod long_matchers;
 mod options;
 mod program;
 mod runs;

@@ -1,8 +1,8 @@
 //! Escaped texts, and quoted texts that are read.
 
-use crate::tests::{holds, prints};
+use crate::tests::{holds, is_so, prints};
 use promql_text::{QuoteError, escape_string, unquote_string};
-use std::alloc::Global;
+use std::alloc::{AllocError, Global};
 
 /// Texts with their escapes.
 const ESCAPED: [(&str, &str); 5] = [
@@ -48,6 +48,20 @@ fn is_unquoted(alloc: Global, text: &str, want: &str) -> bool {
 fn quoted_texts_are_read(rt: HostRuntime) {
     for (text, want) in &UNQUOTED {
         holds(&rt, is_unquoted(rt.alloc(), text, want), text);
+    }
+}
+
+/// Whether a text of so many escapes and letters is read between quotes.
+fn is_long_unquoted(alloc: Global, pairs: usize) -> Result<bool, AllocError> {
+    let quoted = format!(in alloc; "\"{}\"", r"\na".repeat(alloc, pairs)?)?;
+    let want = "\na".repeat(alloc, pairs)?;
+    Ok(is_unquoted(alloc, quoted.as_str(), want.as_str()))
+}
+
+#[test]
+fn long_texts_are_read(rt: HostRuntime) {
+    for pairs in &[100, 5_000, 35_000] {
+        is_so(&rt, is_long_unquoted(rt.alloc(), *pairs), "pairs");
     }
 }
 

@@ -17,13 +17,15 @@ const PRINTED: [(&str, usize, usize); 6] = [
     ("time()", 1, 1),
 ];
 
-/// Counts the nodes up to the first that does not print as the text at its place, their parts, and the calls after nodes.
+/// Counts the nodes up to the first that does not print as the text at its place, their parts, and the calls after nodes, each of
+/// which is for the node that was entered last and is not left.
 #[derive(Drop)]
 struct Printed {
     alloc: Global,
     query: String,
     nodes: usize,
     parts: usize,
+    entered: Vec<String>,
     left: usize,
 }
 
@@ -41,12 +43,15 @@ impl PlacedVisitor for Printed {
         }
         self.nodes = self.nodes.saturating_add(1);
         self.parts = self.parts.saturating_add(parts.len());
+        self.entered.push(text)?;
         Ok(true)
     }
 
-    fn post_visit(&mut self, _expr: &Expr) -> Result<bool, AllocError> {
-        self.left = self.left.saturating_add(1);
-        Ok(true)
+    fn post_visit(&mut self, expr: &Expr) -> Result<bool, AllocError> {
+        let text = expr.to_string(self.alloc)?;
+        let is_last = self.entered.pop() == Some(text);
+        self.left = self.left.saturating_add(usize::from(is_last));
+        Ok(is_last)
     }
 }
 
@@ -57,7 +62,7 @@ fn nodes_print_as_their_places(rt: HostRuntime) {
     }
 }
 
-/// Whether so many nodes print as the text at their places and have so many parts, and a call came after each node.
+/// Whether so many nodes print as the text at their places and have so many parts, and one call came after each node.
 fn finds(alloc: Global, query: &str, nodes: usize, parts: usize) -> Result<bool, Failed> {
     let placed = Box::new(alloc, parse_placed(alloc, query)?)?;
     let printed = Printed {
@@ -65,6 +70,7 @@ fn finds(alloc: Global, query: &str, nodes: usize, parts: usize) -> Result<bool,
         query: String::from_str(alloc, query)?,
         nodes: 0,
         parts: 0,
+        entered: Vec::new(alloc),
         left: 0,
     };
     let mut visitor = WithPlaces::new(printed, placed.places.as_slice(), placed.parts.as_slice());

@@ -1,8 +1,9 @@
 //! A matcher in every selector.
 
-use crate::tests::{columns, is_so, prints};
+use crate::tests::{Failed, columns, is_so, prints};
 use promql_label::{MatchOp, Matcher};
-use promql_rewrite::{EnforceError, enforce_query};
+use promql_rewrite::{EnforceError, EnforceWithinError, enforce_query, enforce_text_within};
+use promql_syntax::parser::parse;
 use std::alloc::{AllocError, Global};
 
 /// Each query with its line once `namespace="team-a"` is enforced, or the message of its rejection. In groups the matcher is in
@@ -141,6 +142,42 @@ fn is_in_both(alloc: Global, size: usize) -> Result<bool, AllocError> {
 fn long_matchers_too(rt: HostRuntime) {
     for size in [31, 1_000, 10_000] {
         is_so(&rt, is_in_both(rt.alloc(), size), "a long value");
+    }
+}
+
+/// Each query with its line once `b="c"` is enforced.
+const BOUNDED: &str = r#"a => a{b="c"}
+a{d="e"} + a{b="c"} => a{b="c",d="e"} + a{b="c"}
+{d="e" or b="c" or f="g"} => {d="e", b="c" or b="c" or f="g", b="c"}
+time() => time()"#;
+
+/// Whether the query has this line, which is not made where it may have one byte less.
+fn is_bounded(alloc: Global, query: &str, want: &str) -> Result<bool, Failed> {
+    let len = want.len();
+    let enforced = enforce_text_within(alloc, parse(alloc, query)?, "b=\"c\"", len);
+    let less = enforce_text_within(
+        alloc,
+        parse(alloc, query)?,
+        "b=\"c\"",
+        len.saturating_sub(1),
+    );
+    let is_long = matches!(less, Err(EnforceWithinError::TooLong(found)) if found == len);
+    drop(less);
+    match enforced {
+        Ok(expr) => {
+            let line = expr.to_string(alloc);
+            drop(expr);
+            Ok(line?.as_str() == want && is_long)
+        }
+        Err(_) => Ok(false),
+    }
+}
+
+#[test]
+fn lines_are_bounded(rt: HostRuntime) {
+    for row in BOUNDED.split('\n') {
+        let (query, want) = columns(row);
+        is_so(&rt, is_bounded(rt.alloc(), query, want), query);
     }
 }
 
