@@ -1,4 +1,4 @@
--- What a query names, as JSON, has no number, and the places of its nodes have no float.
+-- What a query names, as JSON, has no number, and places, parts and tokens have no float.
 use Rattle.std.proofs.Common.{◌≡◌, refl, List, [], ◌∷◌, map}
 use Rattle.std.specs.Prelude.{false, Option, Some, None}
 use Rattle.std.proofs.lemmas.Bool.{or_from}
@@ -9,7 +9,11 @@ use Rattle.promql_text.specs.Texts.{Text}
 use Rattle.promql_rewrite.specs.Collecting.{Selection, selected}
 use Rattle.promql_c.specs.CollectedJson.{collected_value, selector_value}
 use Rattle.promql_lines.specs.Batch.{texts}
+use Rattle.promql_c.specs.PartsText.{part_value, parts_value}
 use Rattle.promql_c.specs.PlacesText.{span_value}
+use Rattle.promql_c.specs.TokensText.{token_value}
+use Rattle.promql_places.specs.declared.parts.Part.{Part}
+use Rattle.promql_token.specs.declared.lexeme.Lexeme.{Lexeme}
 use Rattle.promql_span.specs.declared.span.Span.{Span}
 use Rattle.promql_json.specs.JsonParts.{list, or_null}
 
@@ -37,3 +41,9 @@ collected_no_number functions labels metrics found =
 
 pub places_no_float : (places : List Span) → has_float (list (map span_value places)) ≡ false
 places_no_float places = no_numbers span_value (λ p. refl) places
+
+pub parts_no_float : (lists : List (List Part)) → has_float (list (map parts_value lists)) ≡ false
+parts_no_float lists = no_numbers parts_value (λ ps. no_numbers part_value (λ p. refl) ps) lists
+
+pub tokens_no_float : (tokens : List Lexeme) → has_float (list (map token_value tokens)) ≡ false
+tokens_no_float tokens = no_numbers token_value (λ x. refl) tokens
