@@ -1,5 +1,5 @@
 -- How many bytes the line of an enforced tree has: those of the tree's line, and what the matcher adds to each selector.
-use Rattle.std.proofs.Common.{◌≡◌, ℕ, ◌+◌, refl, sym, ap, ◌∙◌, arith, Bool, true, false, Option, Some, None, List, [], ◌∷◌, ◌++◌, length, length-append, map, codes, min, Result, Ok}
+use Rattle.std.proofs.Common.{◌≡◌, ℕ, ◌+◌, refl, sym, ap, ◌∙◌, arith, Bool, true, false, Option, List, [], ◌∷◌, ◌++◌, length, length-append, map, codes}
 use Rattle.std.specs.Prelude.{if◌then◌else◌, unwrap_or}
 use Rattle.std.specs.List.{flat_map, list_any, sum_by}
 use Rattle.std.proofs.lemmas.List.Sums.{sum_by-append, sum_by-cons}
@@ -21,7 +21,7 @@ use Rattle.promql_ast.specs.node.Binary.{binary_text, operator_text}
 use Rattle.promql_ast.specs.node.Call.{call_text}
 use Rattle.promql_ast.specs.node.Matrix.{matrix_range_text}
 use Rattle.promql_ast.specs.node.Subquery.{range_text}
-use Rattle.promql_ast.specs.node.Vector.{base_text, suffix_text, with_braces}
+use Rattle.promql_ast.specs.node.Vector.{base_text, with_braces}
 use Rattle.promql_ast.proofs.normal_form.Blank.{braced_text}
 use Rattle.promql_rewrite.specs.AddedBytes.{added_to_list, added_to_matchers, added_to_selector, adds_bytes, placed_bytes}
 use Rattle.promql_rewrite.specs.Enforcing.{all_enforced, enforced, enforced_matchers, enforced_selector, maybe_enforced, with_matcher}

@@ -1,4 +1,4 @@
-use Rattle.std.proofs.Common.{◌≡◌, ◌∙◌, sym, ap, arith, map, rules, slice_index_or, string_bytes}
+use Rattle.std.proofs.Common.{◌∙◌, sym, ap, arith, map, rules, slice_index_or, string_bytes}
 use Rattle.std.specs.Box.{with_value}
 use Rattle.std.proofs.lemmas.List.{with_items_is}
 use Rattle.promql_kind.specs.Functions.{signature_of}
