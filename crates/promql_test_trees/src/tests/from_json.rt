@@ -166,7 +166,7 @@ fn list_line(alloc: Global, list: &[&str; 5], size: u32) -> Result<String, Alloc
     let [start, before, after, between, end] = *list;
     let mut line = format!(in alloc; "{start}{before}1000{after}")?;
     for number in 1..size {
-        let item = format!(in alloc; "{between}{before}{}{after}", 1_000 + number)?;
+        let item = format!(in alloc; "{between}{before}{}{after}", 1_000u32.wrapping_add(number))?;
         line.push_str(item.as_str())?;
     }
     line.push_str(end)?;
