@@ -123,7 +123,7 @@ fn parts_value(alloc: Global, parts: &[Part]) -> Result<Value, AllocError>
 
 /// A list of the lists of the parts of nodes.
 fn part_lists_value(alloc: Global, lists: &[Vec<Part>]) -> Result<Value, AllocError>
-    ensures { IfOk result (λ v. view v ≡ list (map (λ ps. parts_value ps.items) lists.now)) }
+    ensures { IfOk result (λ v. view v ≡ list (map parts_value (map (λ ps. ps.items) lists.now))) }
 {
     let mut list = Vec::with_capacity(alloc, lists.len())?;
     for parts in lists {
@@ -132,14 +132,19 @@ fn part_lists_value(alloc: Global, lists: &[Vec<Part>]) -> Result<Value, AllocEr
     Ok(Value::Array(list))
 }
 
+fn part_lists_text(alloc: Global, lists: &[Vec<Part>]) -> Result<String, AllocError>
+    ensures { IfOk result (λ s. string_bytes s ≡ compact_text (list (map parts_value (map (λ ps. ps.items) lists.now)))) }
+{
+    let value = part_lists_value(alloc, lists)?;
+    value_text(alloc, value)
+}
+
 /// The JSON of the parts of the nodes of a text's tree.
 fn text_of_parts(alloc: Global, query: &str, expr: &Expr) -> Result<String, AllocError>
     ensures { IfOk result (λ s. IsAnswerTo query.now (Ok (tree_of expr.now)) → IsPartsText query.now (tree_of expr.now) (string_bytes s)) }
 {
     let lists = find_parts(alloc, query, expr)?;
-    let value = part_lists_value(alloc, lists.as_slice());
-    drop(lists);
-    value_text(alloc, value?)
+    part_lists_text(alloc, lists.as_slice())
 }
 
 /// The JSON of the parts of the nodes of a text's query.
