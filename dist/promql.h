@@ -133,6 +133,19 @@ uint32_t promql_collect(const char *query, size_t query_length, char *buffer, si
 uint32_t promql_places(const char *query, size_t query_length, char *buffer, size_t buffer_size,
                        struct promql_result *result);
 
+/* Shows the parts of the nodes of a query's tree, as JSON: an array with an array for each node, in the order of promql_places, which has
+ * an array for each part of it: its kind, and the bytes from and up to which it goes, as ["operator",0,3] (docs/guide/bindings.md, "Parts
+ * of nodes"). */
+uint32_t promql_parts(const char *query, size_t query_length, char *buffer, size_t buffer_size,
+                      struct promql_result *result);
+
+/* Shows the tokens of any text, accepted as a query or not, as JSON: an array with an array for each token in their order: its kind, and the
+ * bytes from and up to which it goes, as ["name",0,3]. Comments are among them, and what no token begins with, of the kind "error"; white
+ * space alone is between them (docs/guide/bindings.md, "Tokens"). A text that is longer than a query may be gives PROMQL_TOO_LARGE, and
+ * nothing is said of its patterns. */
+uint32_t promql_tokens(const char *text, size_t text_length, char *buffer, size_t buffer_size,
+                       struct promql_result *result);
+
 /* Checks a query, also whether the target reads it otherwise (promql_set_target). The text is empty where it is accepted. */
 uint32_t promql_check(const char *query, size_t query_length, char *buffer, size_t buffer_size,
                       struct promql_result *result);
