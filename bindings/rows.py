@@ -8,9 +8,10 @@ usage: bindings/rows.py c PROGRAM [THREADS]   through bindings/c/tests/test_prom
 Where THREADS are given, each makes all calls again beside the others, and is to get the same.
 
 The rows are the lines of crates/promql_batch/stdin with those of stdout. Each that asks for a query is printed in its mode, and
-checked and explained; one that asks for a line is also printed by `canonical`, and in Python by `canonical_many`. Of those with a matcher to
-enforce, each that asks for a line is one call, unless that line is too long for an output. A line that is no request is no call, and is left out; a
-line that is not UTF-8 is passed on as the query. What was expected at a syntax error comes from `explain` alone. The last line is 'N passed, M failed'.
+checked and explained; one that asks for a line is also printed by `canonical`, and in Python by `canonical_many`. Of those with a
+matcher to enforce, each that asks for a line is one call, unless that line is too long for an output. A line that is no request is no
+call, and is left out; a line that is not UTF-8 is passed on as the query. What was expected at a syntax error comes from `explain`
+alone. The last line is 'N passed, M failed'.
 
 A file of calls has for each a line 'CALL MODE LEVEL WIDTH START END LENGTH' of numbers, and then so many bytes and a line feed. Of
 those of a call that enforces, the last END are the matcher.
