@@ -12,7 +12,7 @@ from .files import BLANKS, Fault, FileError, Source, counted
 from .grafana_variables import VARIABLE, read_variables
 from .queries import Edit, PlacedText, Query, SameQuery
 
-_TOKEN = re.compile(r'"(?:[^"\\]|\\.)*"|[\[\]{}:,]|[^\s\[\]{}:,"]+')
+_JSON_TOKEN = re.compile(r'"(?:[^"\\]|\\.)*"|[\[\]{}:,]|[^\s\[\]{}:,"]+')
 _PIECE = re.compile(r"[^\\]+|\\u[dD][89abAB]..\\u[dD][c-fC-F]..|\\u....|\\.")
 
 JsonPath = Tuple[Any, ...]
@@ -61,11 +61,11 @@ class Dashboard:
 
     def same(self, text: str, same_query: SameQuery) -> bool:
         _load(replace(self.source, text=text))
-        old, new = list(_tokens(self.source.text)), list(_tokens(text))
+        old, new = list(_json_tokens(self.source.text)), list(_json_tokens(text))
         return len(old) == len(new) and all(_same(*pair, same_query) for pair in zip(old, new))
 
     def _read_queries(self, variables: Mapping[str, str]) -> Iterator[Query]:
-        for path, start, token in _tokens(self.source.text):
+        for path, start, token in _json_tokens(self.source.text):
             if not _is_query(path, token) or not json.loads(token).strip(BLANKS):
                 continue
             string = JsonString(self.source.text, start, start + len(token))
@@ -97,13 +97,13 @@ def _load(source: Source) -> Any:
         raise FileError(source.shown(Fault(error.pos, error.pos, f"not JSON: {error.msg}"))) from error
 
 
-def _tokens(text: str) -> Iterator[Tuple[JsonPath, int, str]]:
+def _json_tokens(text: str) -> Iterator[Tuple[JsonPath, int, str]]:
     """Each token of a valid JSON text with its place, and for a value that is none of an array or an object its path.
 
     The path has an index for each array that the value is in, and a key for each object; that of all else is empty.
     """
     path: List[Any] = []
-    for found in _TOKEN.finditer(text):
+    for found in _JSON_TOKEN.finditer(text):
         token = found[0]
         place: JsonPath = ()
         if token in "[{":
