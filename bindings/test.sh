@@ -339,8 +339,23 @@ checked_by_shellcheck() {
     (cd "$root" && git ls-files | xargs grep -lE '^#!.*(bash|/sh)$' | xargs shellcheck -x -e SC2030,SC2031)
 }
 
+# sizes_have_each_crate: whether `bin/count_definitions --sizes` has a line for each crate that is not of tests, and their sums.
+sizes_have_each_crate() {
+    local crate sizes
+    sizes=$("$root/bin/count_definitions" --sizes) || return
+    while read -r crate; do
+        if ! [ -f "$root/crates/$crate/src/tests.rt" ]; then
+            grep -qE "^$crate +[0-9,]+ +[0-9,]+ +[0-9,]+$" <<<"$sizes" || return
+        fi
+    done < <(sed -nE 's/^([a-z_]+)[ :].*/\1/p' "$root/crates.txt")
+    awk 'NR > 1 && $1 != "together" { gsub(",", ""); for (at = 2; at <= 4; at++) sums[at] += $at }
+        $1 == "together" { gsub(",", ""); same = $2 == sums[2] && $3 == sums[3] && $4 == sums[4] }
+        END { exit !same }' <<<"$sizes"
+}
+
 test_scripts() {
     local script
+    try 'bin/count_definitions --sizes' sizes_have_each_crate
     if has shellcheck 'scripts for a shell'; then try 'scripts for a shell' checked_by_shellcheck; fi
     has mypy 'the types of the scripts' || return
     for script in checks.py count_definitions list_edits manuals prove test_expected test_vendor vendor; do
