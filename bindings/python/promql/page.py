@@ -1,7 +1,7 @@
 """A page to try queries in, served on this machine alone: `python -m promql serve`.
 
-`GET /` is the page. `POST /query` takes a JSON object with the member `query`, and returns what the page shows of that query
-(`describe`). Everything that a browser needs comes from the folder `static`.
+`GET /` is the page. `POST /query` takes a JSON object with the member `query`, and `width` for the characters of a line, and returns
+what the page shows of that query (`describe`). Everything that a browser needs comes from the folder `static`.
 """
 
 from __future__ import annotations
@@ -28,6 +28,7 @@ DEFAULT_PORT = 8017
 MAX_BODY = 256 * 1024
 MAX_TEXT = 512 * 1024
 MAX_NODES = 250
+MAX_WIDTH = 100
 # How much of a longer body is read, so that a browser gets to the response.
 _MAX_SKIPPED = 16 * MAX_BODY
 
@@ -51,13 +52,13 @@ _HEADERS = {
 _LOOPBACK = re.compile(r"(?:localhost|127\.0\.0\.1|\[::1\])(?::\d{1,5})?", re.IGNORECASE)
 
 
-def describe(query: str) -> Dict[str, Any]:
-    """What the page shows of a query: its `line`, its `layout` and its `drawing`, or an `error` with its place.
+def describe(query: str, width: int = MAX_WIDTH) -> Dict[str, Any]:
+    """What the page shows of a query: its `line`, its `layout` of so many columns and its `drawing`, or an `error` with its place.
 
     A text is None where it is too long to show; `note` says why there is no drawing.
     """
     try:
-        texts = {"line": canonical(query), "layout": format_query(query)}
+        texts = {"line": canonical(query), "layout": format_query(query, width=width)}
     except QueryError as error:
         return {"error": _error(error)}
     return {**{name: text if len(text) <= MAX_TEXT else None for name, text in texts.items()}, **_drawing(query)}
@@ -123,7 +124,7 @@ class Handler(BaseHTTPRequestHandler):
             self._look_at_host()
             self._look_at_method()
             if self.path == "/query":
-                self._send_json(HTTPStatus.OK, describe(self._query()))
+                self._send_json(HTTPStatus.OK, describe(*self._question()))
             else:
                 name, kind = _FILES[self.path]
                 self._send(HTTPStatus.OK, kind, (_STATIC / name).read_bytes())
@@ -143,17 +144,20 @@ class Handler(BaseHTTPRequestHandler):
         if self.command not in _METHODS[self.path]:
             raise _Rejection(HTTPStatus.METHOD_NOT_ALLOWED, f"the method is not {' or '.join(_METHODS[self.path])}")
 
-    def _query(self) -> str:
-        """The query of the body."""
+    def _question(self) -> Tuple[str, int]:
+        """The query of the body, and how wide it is to be laid out."""
         if self.headers.get_content_type() != "application/json":
             raise _Rejection(HTTPStatus.UNSUPPORTED_MEDIA_TYPE, "the body is not application/json")
         try:
             value = json.loads(self._body().decode())
             query = value["query"]
             query.encode()
+            width = value.get("width", MAX_WIDTH)
         except (ValueError, RecursionError, TypeError, KeyError, AttributeError):
             raise _Rejection(HTTPStatus.BAD_REQUEST, "the body is not an object with a text `query`") from None
-        return str(query)
+        if type(width) is not int or not 1 <= width <= MAX_WIDTH:
+            raise _Rejection(HTTPStatus.BAD_REQUEST, f"the width is not a whole number from 1 to {MAX_WIDTH}")
+        return str(query), width
 
     def _body(self) -> bytes:
         length = self.headers.get("Content-Length")

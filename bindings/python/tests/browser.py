@@ -28,6 +28,17 @@ SHOWN_IN_GUIDE = (
     'sum(rate(errors_total{code=~"5..",job="api"}[5m]))BY(job) # all codes\n'
     " / on(job) sum(rate(requests_total[5m]))by(job) > 0.05"
 )
+LARGE = f"({' + '.join(f'rate(some_metric{n}[5m])' for n in range(40))}) / ({' + '.join(f'other_metric{n}' for n in range(40))})"
+ROOT_IS_SEEN = """(() => {
+    const root = document.querySelector('#drawing .node').getBoundingClientRect();
+    const box = document.getElementById('drawing').getBoundingClientRect();
+    return root.top >= box.top && root.bottom <= box.bottom && root.left >= box.left;
+})()"""
+# What reaches beyond the screen, but within a box that scrolls.
+WIDER_THAN_SCREEN = """[document.documentElement, ...document.querySelectorAll('body, body *')]
+    .filter((it) => it.closest('svg') === null && (it.getBoundingClientRect().right > innerWidth || it.scrollWidth > innerWidth)
+        && !['layout', 'drawing'].includes(it.id))
+    .map((it) => it.id || it.tagName)"""
 SECONDS = 30
 
 
@@ -87,6 +98,15 @@ class Browser:
     def value(self, script):
         """The value of an expression in the page."""
         return self.call("Runtime.evaluate", expression=script, returnByValue=True)["result"].get("value")
+
+    def await_value(self, script):
+        """What a promise in the page comes to, as if the user had asked for it."""
+        parameters = {"expression": script, "returnByValue": True, "awaitPromise": True, "userGesture": True}
+        return self.call("Runtime.evaluate", **parameters)["result"].get("value")
+
+    def show_on(self, width, height, is_phone=False):
+        """Shows the page on a screen of this size."""
+        self.call("Emulation.setDeviceMetricsOverride", width=width, height=height, deviceScaleFactor=0, mobile=is_phone)
 
     def text(self, id_):
         return self.value(f"document.getElementById('{id_}').textContent")
@@ -215,6 +235,76 @@ class Page(unittest.TestCase):
             });
         })"""
         self.assertTrue(self.browser.value(script))
+
+    def test_a_large_tree_opens_at_its_root(self):
+        self.open(LARGE)
+        self.browser.wait_shown("accepted")
+        self.assertTrue(self.browser.value("document.getElementById('drawing').scrollTop > 500"))
+        self.assertTrue(self.browser.value(ROOT_IS_SEEN))
+        self.assertEqual(self.browser.value("document.querySelector('#drawing .node .label').textContent"), "/")
+        self.browser.value("document.getElementById('drawing').scrollTop = 0")
+        self.assertFalse(self.browser.value(ROOT_IS_SEEN))
+        self.type(f"{LARGE} + 1")
+        self.browser.wait_for("document.querySelector('#drawing .node .label').textContent === '+'")
+        self.assertTrue(self.browser.value(ROOT_IS_SEEN))
+
+    def test_screens(self):
+        """Nothing is wider than the screen, nor a line of the layout wider than its box."""
+        self.addCleanup(self.browser.call, "Emulation.clearDeviceMetricsOverride")
+        for width, height in ((320, 568), (390, 844), (844, 390), (1280, 800)):
+            self.browser.show_on(width, height, is_phone=width < 1000)
+            for query, id_ in ((SHOWN_IN_GUIDE, "accepted"), (LARGE, "accepted"), (f"rate({'x' * 300})", "rejected"), ("'" + "y" * 300, "rejected")):
+                self.browser.open("about:blank")
+                self.open(query)
+                self.browser.wait_shown(id_)
+                self.assertEqual(self.browser.value("innerWidth"), width)
+                self.assertEqual(self.browser.value(WIDER_THAN_SCREEN), [], (width, query))
+            self.open(SHOWN_IN_GUIDE)
+            self.browser.wait_for("document.getElementById('line').textContent.startsWith('sum by (job)')")
+            self.assertTrue(self.browser.value("document.getElementById('layout').scrollWidth <= document.getElementById('layout').clientWidth"))
+        self.assertEqual(self.browser.text("layout"), promql.format_query(SHOWN_IN_GUIDE))
+
+    def test_a_screen_that_is_turned(self):
+        self.addCleanup(self.browser.call, "Emulation.clearDeviceMetricsOverride")
+        self.browser.show_on(390, 844, is_phone=True)
+        self.open(SHOWN_IN_GUIDE)
+        self.browser.wait_shown("accepted")
+        upright = self.browser.text("layout")
+        self.browser.show_on(844, 390, is_phone=True)
+        self.browser.wait_for(f"document.getElementById('layout').textContent !== {json.dumps(upright)}")
+        self.assertLess(self.browser.text("layout").count("\n"), upright.count("\n"))
+
+    def test_copying(self):
+        self.browser.call("Browser.grantPermissions", permissions=["clipboardReadWrite", "clipboardSanitizedWrite"])
+        self.browser.call("Emulation.setFocusEmulationEnabled", enabled=True)
+        self.addCleanup(self.browser.call, "Browser.resetPermissions")
+        self.open("# é🦀\nsum(a)by(b)")
+        self.browser.wait_shown("accepted")
+        for id_, text in (("layout", "# é🦀\nsum by (b) (a)"), ("line", "sum by (b) (a)")):
+            self.browser.await_value(f"document.querySelector('[data-copies={id_}]').click()")
+            self.browser.wait_for(f"document.querySelector('[data-copies={id_}]').textContent === 'Copied'")
+            self.assertEqual(self.browser.await_value("navigator.clipboard.readText()"), text)
+            self.browser.wait_for(f"document.querySelector('[data-copies={id_}]').textContent === 'Copy'")
+        self.assertEqual(self.browser.complaints, [])
+
+    def test_copying_where_it_is_not_allowed(self):
+        self.open("sum(a)by(b)")
+        self.browser.wait_shown("accepted")
+        self.browser.value("navigator.clipboard.writeText = () => Promise.reject()")
+        self.browser.value("document.querySelector('[data-copies=line]').click()")
+        self.browser.wait_for("document.querySelector('[data-copies=line]').textContent === 'Selected'")
+        self.assertEqual(self.browser.value("getSelection().toString()"), "sum by (b) (a)")
+
+    def test_a_text_too_long_to_show_is_not_copied(self):
+        self.open()
+        self.browser.value("showResult({ line: 'a', layout: null, drawing: null, note: 'n' })")
+        self.assertEqual(self.browser.text("layout"), "too long to show")
+        self.assertTrue(self.browser.value("document.querySelector('[data-copies=layout]').hidden"))
+        self.assertFalse(self.browser.value("document.querySelector('[data-copies=line]').hidden"))
+
+    def test_the_example_in_the_empty_field(self):
+        self.open()
+        promql.check(self.browser.value("document.getElementById('query').placeholder"))
 
     def test_dark_and_light(self):
         self.open("1")

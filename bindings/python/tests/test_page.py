@@ -37,6 +37,8 @@ REJECTED = (
     ("POST", "/query", JSON, b'{"query":"\\ud800"}', 400, "query"),
     ("POST", "/query", JSON, b'{"query":"\xff"}', 400, "query"),
     ("POST", "/query", JSON, b"[" * 200_000, 400, "query"),
+    *(("POST", "/query", JSON, b'{"query":"1","width":%s}' % width, 400, "width")
+      for width in (b"0", b"-1", b"101", b"1e1", b"true", b"null", b'"9"', b"9" * 4_000)),
     ("POST", "/query", {**JSON, "Content-Length": "-1"}, b"", 400, "number"),
     ("POST", "/query", {**JSON, "Content-Length": "1e3"}, b"", 400, "number"),
     ("GET", "/page.py", {}, b"", 404, "nothing"),
@@ -86,8 +88,8 @@ class Served(unittest.TestCase):
             with connection.makefile("rb") as response:
                 return response.read()
 
-    def ask(self, query):
-        response, body = self.request("POST", "/query", JSON, json.dumps({"query": query}).encode())
+    def ask(self, query, **members):
+        response, body = self.request("POST", "/query", JSON, json.dumps({"query": query, **members}).encode())
         self.assertEqual(response.status, 200)
         return json.loads(body)
 
@@ -103,6 +105,13 @@ class Queries(Served):
     def test_laid_out(self):
         query = " + ".join(["rate(some_metric[5m])"] * 12)
         self.assertGreater(self.ask(query)["layout"].count("\n"), 9)
+
+    def test_widths(self):
+        query = "sum(rate(some_metric{a='b'}[5m])) by (job) / sum(rate(other_metric[5m])) by (job)"
+        for width in (1, 20, 41, 99, 100):
+            self.assertEqual(self.ask(query, width=width)["layout"], promql.format_query(query, width=width))
+        self.assertEqual(self.ask(query)["layout"], promql.format_query(query, width=100))
+        self.assertLessEqual(max(map(len, self.ask(query, width=41)["layout"].splitlines())), 41)
 
     def test_comments(self):
         shown = self.ask("# all\nsum(foo)by(job) # one")

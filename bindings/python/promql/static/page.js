@@ -1,15 +1,21 @@
 "use strict";
 
 const DELAY = 80; // milliseconds after a letter before the server is asked
+const COPIED = 1500; // milliseconds for which a button says that it copied
+const MOST_COLUMNS = 100; // as many as the server lays a query out in
 
 const element = (id) => document.getElementById(id);
 const field = element("query");
 let timer = 0;
+let asked = 0; // the columns of the last request
 let asking = new AbortController();
 
-/** Shows the text in the element, or that it is too long. */
+/** Shows the text in the element, or that it is too long, which is nothing to copy. */
 function showText(id, text) {
   element(id).textContent = text ?? "too long to show";
+  for (const button of document.querySelectorAll(`[data-copies=${id}]`)) {
+    button.hidden = text === null;
+  }
 }
 
 function showOnly(...ids) {
@@ -34,6 +40,17 @@ function showDrawing(drawing, note) {
   showText("note", note ?? "");
 }
 
+/** Scrolls the picture to the root of the tree, which is at the left, in the middle of all that is below it. */
+function scrollToRoot() {
+  const picture = element("drawing");
+  const root = picture.querySelector(".node")?.getBoundingClientRect();
+  if (root) {
+    const { top, bottom } = picture.getBoundingClientRect();
+    picture.scrollLeft = 0;
+    picture.scrollTop += (root.top + root.bottom - top - bottom) / 2;
+  }
+}
+
 function showResult({ error, line, layout, drawing, note }) {
   if (error) {
     showError(error);
@@ -43,6 +60,7 @@ function showResult({ error, line, layout, drawing, note }) {
   showText("layout", layout);
   showDrawing(drawing, note);
   showOnly("accepted");
+  scrollToRoot();
 }
 
 function showTrouble(text) {
@@ -50,13 +68,24 @@ function showTrouble(text) {
   showOnly("trouble");
 }
 
+/** Returns how many characters a line of the layout has room for. The field is as wide as the layout, which may be hidden. */
+function columns() {
+  const { fontFamily, fontSize, paddingLeft, paddingRight } = getComputedStyle(element("layout"));
+  const pen = document.createElement("canvas").getContext("2d");
+  pen.font = `${fontSize} ${fontFamily}`;
+  const room = field.clientWidth - parseFloat(paddingLeft) - parseFloat(paddingRight);
+  return Math.max(1, Math.min(MOST_COLUMNS, Math.floor(room / pen.measureText("0").width)));
+}
+
 async function ask(query) {
   asking.abort();
   asking = new AbortController();
   const { signal } = asking;
+  asked = columns();
   try {
     const headers = { "Content-Type": "application/json" };
-    const response = await fetch("query", { method: "POST", headers, body: JSON.stringify({ query }), signal });
+    const body = JSON.stringify({ query, width: asked });
+    const response = await fetch("query", { method: "POST", headers, body, signal });
     const result = await response.json();
     if (response.ok) {
       showResult(result);
@@ -88,10 +117,36 @@ function update() {
   }
 }
 
-function typed() {
-  keepLink(field.value);
+function updateSoon() {
   clearTimeout(timer);
   timer = setTimeout(update, DELAY);
+}
+
+function typed() {
+  keepLink(field.value);
+  updateSoon();
+}
+
+/** Lays the query out again where a line has room for more or fewer characters now. */
+function resized() {
+  if (columns() !== asked) {
+    updateSoon();
+  }
+}
+
+/** Copies the text that the button is for, or selects it where the browser lets no page copy. */
+async function copy(button) {
+  const shown = element(button.dataset.copies);
+  try {
+    await navigator.clipboard.writeText(shown.textContent);
+    button.textContent = "Copied";
+  } catch (error) {
+    getSelection().selectAllChildren(shown);
+    button.textContent = "Selected";
+  }
+  setTimeout(() => {
+    button.textContent = "Copy";
+  }, COPIED);
 }
 
 /** Puts the query of a link, after `#q=`, into the field. */
@@ -110,4 +165,8 @@ function follow() {
 
 field.addEventListener("input", typed);
 window.addEventListener("hashchange", follow);
+window.addEventListener("resize", resized);
+for (const button of document.querySelectorAll("[data-copies]")) {
+  button.addEventListener("click", () => copy(button));
+}
 follow();
