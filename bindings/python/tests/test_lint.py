@@ -259,7 +259,7 @@ class Rules(unittest.TestCase):
         for code, (name, text) in entries.items():
             with self.subTest(code=code):
                 self.assertEqual(name, RULES[code].name)
-                self.assertEqual("Only if selected" in text, not RULES[code].is_default)
+                self.assertEqual("Off by default" in " ".join(text.split()), not RULES[code].is_default)
                 self.assertEqual([kind for kind, _ in EXAMPLE.findall(text)], ["Bad", "Good"])
                 (_, bad), (_, good) = EXAMPLE.findall(text)
                 self.assertEqual({it.code for it in found_by(code, bad)}, {code})
