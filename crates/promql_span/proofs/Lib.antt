@@ -1,4 +1,5 @@
 pub mod EscapeSteps
+pub mod DifferenceRows
 pub mod Covered
 pub mod LineParts
 pub mod Naming

@@ -1,4 +1,6 @@
 pub mod ByteEscapes
+pub mod Differences
+pub mod DifferenceSteps
 pub mod CharSpans
 pub mod PlacedTokens
 pub mod TokensPlaced

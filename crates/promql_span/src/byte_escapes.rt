@@ -56,7 +56,7 @@ fn escape_between(at: usize, quoted: &[u8]) -> Option<usize>
 
 /// Where the first one of a text is, which begins at `at`.
 #[tactic(auto, using(crate::proofs::EscapeSteps::after_byte))]
-fn first_escape(at: usize, text: &[u8]) -> Option<usize>
+pub(crate) fn first_escape(at: usize, text: &[u8]) -> Option<usize>
     requires { at + length text.now < 2 ^ 64 }
     ensures { result ≡ spec.first_escape false at text.now }
 {

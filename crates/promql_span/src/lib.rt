@@ -5,6 +5,7 @@
 mod argument;
 mod byte_escapes;
 pub mod diagnosis;
+mod differences;
 pub mod expected;
 mod kind_names;
 pub mod laws;
@@ -19,6 +20,7 @@ pub mod unexpected;
 mod visibility;
 
 pub use byte_escapes::byte_escape;
+pub use differences::{Difference, DifferenceKind, Printed, first_difference};
 pub use location::Location;
 pub use placed::PlacedTokens;
 pub use places::{argument_span, char_span, end_of_text, span_between, token_left};

@@ -6,7 +6,7 @@ ghost use Rattle.std.specs.Prelude.{◌<◌, ◌≤◌};
 ghost use Rattle.promql_span.specs.MeasuredTokens.{AreMeasured};
 ghost use Rattle.promql_span.specs.PlacedTokens.{first_span, placed_tokens};
 ghost use Rattle.promql_span.specs.QueryLimits as spec;
-ghost use Rattle.promql_span.specs.Targets.{for_rules};
+ghost use Rattle.promql_span.specs.Targets.{for_layout, for_rules};
 
 use crate::placed::PlacedTokens;
 use crate::places::{end_of_text, span_of};
@@ -72,6 +72,16 @@ impl Limits {
     {
         Limits {
             target: Target::Rules,
+            ..*self
+        }
+    }
+
+    /// The same where the query is laid out for people.
+    pub fn for_layout(&self) -> Limits
+        ensures { result ≡ for_layout self.now }
+    {
+        Limits {
+            target: self.target.for_layout(),
             ..*self
         }
     }
@@ -243,7 +253,7 @@ impl Measured {
 }
 
 /// The token of this index, from 0, or the end of the text.
-fn token_numbered(text: &str, index: usize) -> Span
+pub(crate) fn token_numbered(text: &str, index: usize) -> Span
     ensures { result ≡ first_span text.now (drop index (placed_tokens text.now)) }
 {
     match PlacedTokens::new(text).nth(index) {

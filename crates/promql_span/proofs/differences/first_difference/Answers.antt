@@ -1,0 +1,17 @@
+use Rattle.std.proofs.Common.{◌≡◌, ◌∙◌, ap, arith, length}
+use Rattle.std.proofs.lemmas.List.{length-map}
+use Rattle.promql_token.specs.Cursor.{tokens_left}
+use Rattle.promql_token.specs.Lexing.{text_at}
+use Rattle.promql_span.specs.Differences.{first_kind}
+use Rattle.promql_span.specs.PlacedTokens.{placed_tokens}
+use Rattle.promql_span.proofs.OrderedTokens.{tokens_fit}
+use Rattle.promql_span.proofs.PlacedTexts.{pieces_placed}
+use Rattle.promql_span.proofs.differences.first_difference.Goals as goal
+
+pub loop-id-init : goal.loop-id-init
+loop-id-init c =
+    let s = c.args.text.now in
+    let all = c.new-tokens.ensures.pieces in
+    let counted : length (tokens_left c.new-tokens.result) ≡ length (placed_tokens s) =
+    ap length (all ∙ pieces_placed s) ∙ length-map (placed_tokens s) (λ x. (x.id, text_at s x)) in
+    (ap (first_kind c.args.printed 0 11) all, omega (arith, counted, tokens_fit s))
