@@ -33,8 +33,9 @@ strings, keywords and the order of what is written stay, too. With --check nothi
 is written, and the status says whether the query is formatted. A query of more
 than --max-len bytes (32768), or with patterns that are together larger than
 --max-patterns (16000), is rejected before it is parsed. A layout of more than
---max-output bytes (4194304) is an error. An escape of a byte past ASCII means
-something else to Prometheus, and is an error; with --target rules it is not.
+--max-output bytes (4194304) is an error. What Prometheus reads otherwise, such as
+an escape of a byte past ASCII, is an error; with --target rules or --keep-spelling
+it is not.
 
 Status: 0 the query was written, or is formatted, 4 the query is rejected, 9 the
 width is above 65535 or the indentation above 16, 12 the query that was made does

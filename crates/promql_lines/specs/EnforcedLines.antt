@@ -8,7 +8,7 @@ use Rattle.promql_rewrite.specs.MatcherTexts.{IsEnforcedBy, IsMatcherText, Meets
 use Rattle.promql_run.specs.Programs.{Command}
 use Rattle.promql_report.specs.LimitOptions.{command, default_limits, limits_with}
 use Rattle.promql_span.specs.QueryLimits.{IsWithin}
-use Rattle.promql_span.specs.Targets.{difference}
+use Rattle.promql_span.specs.Targets.{matcher_difference}
 use Rattle.promql_span.specs.declared.span.Span.{Span}
 use Rattle.promql_lines.specs.LinesWithin.{HasLine}
 use Rattle.promql_lines.specs.QueryErrors.{IsOver, OfTree, Then}
@@ -21,7 +21,7 @@ use Rattle.promql_lines.specs.declared.query_error.QueryError.TheVariants as err
 -- the text that a matcher is read in has the limits of a query, and their target reads no part of it otherwise
 abbrev pub IsMatcherWithin : Limits → Text → Type 0
 IsMatcherWithin limits matcher =
-    IsWithin (selector_around matcher) limits × (difference limits.target (selector_around matcher) ≡ None)
+    IsWithin (selector_around matcher) limits × (matcher_difference limits.target (selector_around matcher) ≡ None)
 
 -- the tree with the matcher in every selector, or why that is not made; seven bytes come before the matcher in the text that it is read in
 abbrev pub Enforces : Limits → Text → Tree → Result Tree QueryError → Type 0
@@ -29,7 +29,7 @@ Enforces limits matcher t (Ok u) = IsMatcherWithin limits matcher × IsEnforcedB
 Enforces limits matcher t (Err (error.Large measured.MatcherText fault)) = IsOver limits (selector_around matcher) fault
 Enforces limits matcher t (Err (error.MatcherOtherwise at)) =
     IsWithin (selector_around matcher) limits
-    × ((span : Span) × (difference limits.target (selector_around matcher) ≡ Some span) × (at ≡ span.start - 7))
+    × ((span : Span) × (matcher_difference limits.target (selector_around matcher) ≡ Some span) × (at ≡ span.start - 7))
 Enforces limits matcher t (Err (error.Matcher e)) = IsMatcherWithin limits matcher × IsMatcherText matcher (Err e)
 Enforces limits matcher t (Err error.Info) = IsMatcherWithin limits matcher × MeetsBareInfo matcher t
 Enforces limits matcher t (Err e) = e ≡ error.Memory

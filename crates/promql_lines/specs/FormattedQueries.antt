@@ -1,10 +1,11 @@
 -- The layout of a query for people (docs/reference/formatting.md, "What is promised").
-use Rattle.std.specs.Prelude.{◌≡◌, ◌⊎◌, Result}
+use Rattle.std.specs.Prelude.{◌≡◌, ◌⊎◌, if◌then◌else◌, Result}
 use Rattle.promql_text.specs.Texts.{Text}
 use Rattle.promql_formatter.specs.Formats.{IsLayoutOf}
 use Rattle.promql_formatter.specs.Options.{IsTooLong, IsTooWide}
 use Rattle.promql_formatter.specs.declared.options.FormatOptions.{FormatOptions}
 use Rattle.promql_formatter.specs.declared.options.WideOption.{WideOption}
+use Rattle.promql_span.specs.Targets.{for_layout, for_rules}
 use Rattle.promql_span.specs.declared.limits.Limits.{Limits}
 use Rattle.promql_span.specs.declared.limits.LongOutput.{LongOutput}
 use Rattle.promql_lines.specs.QueryErrors.{Gives, OfTree}
@@ -18,6 +19,10 @@ HasNoLayout options e =
     ⊎ ((long : LongOutput) × IsTooLong options long × (e ≡ error.LongOutput long))
     ⊎ ((wide : WideOption) × IsTooWide options wide × (e ≡ error.WideLayout wide))
 
+-- a layout that keeps what is written is read as the query is
+abbrev pub layout_limits : FormatOptions → Limits → Limits
+layout_limits options limits = if options.keep_spelling then for_rules limits else for_layout limits
+
 -- a layout of the query, which has its tree and its comments; or why there is none
 abbrev pub IsFormattedQuery : Limits → FormatOptions → Text → Result Text QueryError → Type 0
-IsFormattedQuery limits options query = OfTree limits query (λ t. Gives (IsLayoutOf options query) (HasNoLayout options))
+IsFormattedQuery limits options query = OfTree (layout_limits options limits) query (λ t. Gives (IsLayoutOf options query) (HasNoLayout options))

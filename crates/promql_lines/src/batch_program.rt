@@ -45,9 +45,9 @@ json, objects of nodes and matchers have \"start\" and \"end\", in bytes), and \
 {\"ok\":VALUE}, or {\"code\":NUMBER,\"error\":MESSAGE}. A query of more than --max-len
 bytes (32768), or with patterns that are together larger than --max-patterns
 (16000), is rejected before it is parsed. A TEXT, or the text of a VALUE, of
-more than --max-output bytes (4194304) is an error. An escape of a byte past
-ASCII, in a query with \"enforce\" or in its matcher, means something else to
-Prometheus, and is an error; with --target rules it is not.
+more than --max-output bytes (4194304) is an error. What Prometheus reads
+otherwise, such as an escape of a byte past ASCII, in a query with \"enforce\" or
+in its matcher, is an error; with --target rules it is not.
 
 Status: 0 each line was answered with ok, 4 some line has an error, 1 out of
 memory, 2 a read failed, 5 a write failed, 64 wrong arguments, 141 nobody reads

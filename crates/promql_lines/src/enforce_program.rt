@@ -37,9 +37,9 @@ every selector of it, and writes the query to standard output, on one line.
 MATCHER is written as between the braces of a selector: namespace=\"team-a\". A
 query of more than --max-len bytes (32768), or with patterns that are together
 larger than --max-patterns (16000), is rejected before it is parsed. MATCHER, and
-the query that is written, have the same limits. An escape of a byte past ASCII, in
-the query or in MATCHER, means something else to Prometheus, and is an error; with
---target rules it is not.
+the query that is written, have the same limits. What Prometheus reads otherwise,
+such as an escape of a byte past ASCII, in the query or in MATCHER, is an error;
+with --target rules it is not.
 
 Status: 0 the query was written, 4 the query is rejected, 11 MATCHER is not a
 matcher or is of the metric name, 12 the query that was made does not read back,

@@ -1,9 +1,9 @@
 //! The layout of a query for people: docs/reference/formatting.md.
 
-ghost use Rattle.std.specs.Prelude.{Err, IfErr, IfOk, Ok, string_bytes};
+ghost use Rattle.std.specs.Prelude.{◌≡◌, Err, IfErr, IfOk, Ok, string_bytes};
 ghost use Rattle.promql_ast.specs.View.{tree_of};
 ghost use Rattle.promql_formatter.specs.Formats.{IsLayoutOf};
-ghost use Rattle.promql_lines.specs.FormattedQueries.{HasNoLayout, IsFormattedQuery};
+ghost use Rattle.promql_lines.specs.FormattedQueries.{HasNoLayout, IsFormattedQuery, layout_limits};
 ghost use Rattle.promql_lines.specs.QueryErrors.{Gives};
 ghost use Rattle.promql_syntax.specs.ParseAnswers.{IsAnswerTo};
 
@@ -13,6 +13,17 @@ use promql_ast::{Expr, drop_expr};
 use promql_formatter::{FormatError, FormatOptions, format_tree};
 use promql_span::limits::Limits;
 use std::alloc::Global;
+
+/// The limits of a query to lay out: a layout that keeps what is written is read as the query is.
+fn layout_limits(options: &FormatOptions, limits: &Limits) -> Limits
+    ensures { result ≡ layout_limits options.now limits.now }
+{
+    if options.keep_spelling {
+        limits.for_rules()
+    } else {
+        limits.for_layout()
+    }
+}
 
 /// The layout of a query that is within its limits.
 ///
@@ -30,7 +41,7 @@ pub fn formatted_query(
     ensures ok { IfOk result (λ s. IsFormattedQuery limits.now options.now query.now (Ok (string_bytes s))) }
     ensures err { IfErr result (λ e. IsFormattedQuery limits.now options.now query.now (Err e)) }
 {
-    let expr = query_tree(alloc, limits, query)?;
+    let expr = query_tree(alloc, &layout_limits(options, limits), query)?;
     let layout = layout_of_tree(alloc, options, query, &expr);
     drop_expr(expr);
     layout

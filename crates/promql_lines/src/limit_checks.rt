@@ -55,7 +55,7 @@ pub(crate) fn check_matcher(alloc: Global, limits: &Limits, matcher: &str) -> Re
     if let Some(fault) = limit_fault(alloc, limits, selector.as_str())? {
         return Err(QueryError::Large(Measured::MatcherText, fault));
     }
-    match limits.target.difference(selector.as_str()) {
+    match limits.target.matcher_difference(selector.as_str()) {
         None => Ok(()),
         Some(span) => {
             let at = span.start.saturating_sub(BEFORE_MATCHER);

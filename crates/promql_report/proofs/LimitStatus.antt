@@ -27,4 +27,4 @@ not_twenty_three Json same = cc
 pub rejected_status : (r : Reason) → (reason_number r ≡ 4) ⊎ (reason_number r ≡ 14) ⊎ (reason_number r ≡ 23)
 rejected_status (reasons.Parse e) = inl refl
 rejected_status (reasons.Limit f) = inr (inl refl)
-rejected_status reasons.Otherwise = inr (inr refl)
+rejected_status (reasons.Otherwise kind) = inr (inr refl)

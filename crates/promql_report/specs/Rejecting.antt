@@ -23,7 +23,7 @@ use Rattle.promql_report.specs.declared.rejection.Rejection.{Rejection}
 abbrev pub reason_number : Reason → ℕ
 reason_number (Parse e) = 4
 reason_number (Limit fault) = 14
-reason_number Otherwise = 23
+reason_number (Otherwise kind) = 23
 
 -- a query that is too long is rejected at its end
 abbrev pub limit_place : Text → LimitFault → Option Span
@@ -35,7 +35,8 @@ limit_place query (PatternsTooLarge size most place) = Some place
 -- (`IsPlaceOf` gives the error Memory no part)
 abbrev pub IsReason : Limits → Text → Reason → Span → Type 0
 IsReason limits query (Limit fault) span = IsLimitFault query limits fault × (limit_place query fault ≡ Some span)
-IsReason limits query Otherwise span = IsWithin query limits × ((t : Tree) × IsAnswerTo query (Ok t)) × (difference limits.target query ≡ Some span)
+IsReason limits query (Otherwise kind) span =
+    IsWithin query limits × ((t : Tree) × IsAnswerTo query (Ok t)) × (difference limits.target query ≡ Some (record { kind = kind; span = span }))
 IsReason limits query (Parse e) span = IsWithin query limits × IsAnswerTo query (Err (plain_error_of e)) × IsPlaceOf query e (Some span)
 
 -- this is why the query is rejected, at this part of it, and where that begins

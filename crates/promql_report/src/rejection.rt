@@ -14,7 +14,7 @@ use promql_ast::{Expr, drop_expr};
 use promql_span::diagnosis::{Diagnosis, diagnose};
 use promql_span::limits::{LimitFault, Limits, check_limits};
 use promql_span::unexpected::{Unexpected, unexpected_at};
-use promql_span::{Location, Span, end_of_text};
+use promql_span::{Difference, DifferenceKind, Location, Span, end_of_text};
 use promql_syntax::parser::ParseError;
 use std::alloc::{AllocError, Global};
 use thiserror::Error;
@@ -29,8 +29,8 @@ pub enum Reason {
     #[error("{0}")]
     Limit(LimitFault),
     /// It is read, and its target reads it otherwise.
-    #[error("Prometheus reads this otherwise: the escape is a byte there, and a character here")]
-    Otherwise,
+    #[error("Prometheus reads this otherwise: {0}")]
+    Otherwise(DifferenceKind),
 }
 
 impl Reason {
@@ -41,7 +41,7 @@ impl Reason {
         match self {
             Reason::Parse(_) => 4,
             Reason::Limit(_) => 14,
-            Reason::Otherwise => 23,
+            Reason::Otherwise(_) => 23,
         }
     }
 
@@ -141,7 +141,7 @@ pub fn read_query(
         return Ok(Err(rejection_at(query, Reason::Limit(fault), span)));
     }
     match diagnose(alloc, query) {
-        Ok(expr) => Ok(for_target(limits, query, expr)),
+        Ok(expr) => for_target(alloc, limits, query, expr),
         Err(Diagnosis { error, span }) => match span {
             Some(span) => Ok(Err(rejection_at(query, Reason::Parse(error), span))),
             None => Err(AllocError),
@@ -150,16 +150,25 @@ pub fn read_query(
 }
 
 /// The tree of a query that is within its limits, or the first part of the query that its target reads otherwise.
-fn for_target(limits: &Limits, query: &str, expr: Expr) -> Result<Expr, Rejection>
+fn for_target(
+    alloc: Global,
+    limits: &Limits,
+    query: &str,
+    expr: Expr,
+) -> Result<Result<Expr, Rejection>, AllocError>
     requires within { IsWithin query.now limits.now }
     requires answer { IsAnswerTo query.now (Ok (tree_of expr)) }
-    ensures { MatchResult result (λ e. IsRead limits.now query.now (tree_of e)) (IsRejection limits.now query.now) }
+    ensures { IfOk result (λ r. MatchResult r (λ e. IsRead limits.now query.now (tree_of e)) (IsRejection limits.now query.now)) }
 {
-    match limits.target.difference(query) {
-        None => Ok(expr),
-        Some(span) => {
+    match limits.target.difference(alloc, query) {
+        Ok(None) => Ok(Ok(expr)),
+        Ok(Some(Difference { kind, span })) => {
             drop_expr(expr);
-            Err(rejection_at(query, Reason::Otherwise, span))
+            Ok(Err(rejection_at(query, Reason::Otherwise(kind), span)))
+        }
+        Err(error) => {
+            drop_expr(expr);
+            Err(error)
         }
     }
 }
