@@ -1,5 +1,5 @@
 -- The answer to a line, with its id.
-use Rattle.std.proofs.Common.{◌≡◌, ◌++◌, ◌∙◌, List, None, Some, ap, codes, inl, inr, refl, subst, sym, true, false}
+use Rattle.std.proofs.Common.{◌≡◌, ◌++◌, ◌∙◌, None, Some, ap, codes, inl, inr, refl, subst, sym, true, false}
 use Rattle.std.specs.Prelude.{ℕ, Bool, Option, option_and_then, option_map}
 use Rattle.std.specs.Str.{IsUtf8}
 use Rattle.serde_json.specs.Data.{Data, string}
@@ -10,7 +10,7 @@ use Rattle.promql_text.specs.Texts.{Text}
 use Rattle.promql_lines.specs.Batch.{HasId, IsIdOf, IsLineAnswer, IsPlainAnswer, error_value, value_text}
 use Rattle.promql_lines.specs.BatchSteps.{FailsWith}
 use Rattle.promql_lines.specs.QueryErrors.{query_error_number, rejected_in}
-use Rattle.promql_lines.specs.Requests.{id_in, matcher_in, mode_in, query_in, unknown_in}
+use Rattle.promql_lines.specs.Requests.{matcher_in, mode_in, query_in, unknown_in}
 use Rattle.promql_lines.specs.declared.query_error.QueryError.TheVariants.{NotARequest}
 use Rattle.promql_lines.specs.declared.rejected_query.RejectedQuery.{RejectedQuery}
 use Rattle.promql_lines.specs.declared.settings.Settings.{Settings}

@@ -1,5 +1,5 @@
 -- A tree in which a matcher is enforced is as high as it was, and has no extension where it had none.
-use Rattle.std.proofs.Common.{◌≡◌, ◌∙◌, ap, subst, sym}
+use Rattle.std.proofs.Common.{◌≡◌, ◌∙◌, ap, inl, inr, subst, sym}
 use Rattle.std.specs.Prelude.{Option, Some, None, Ok, ◌≤◌}
 use Rattle.promql_text.specs.Texts.{Text}
 use Rattle.promql_label.specs.PlainMatchers.{PlainMatcher}
@@ -39,10 +39,13 @@ module _ (c : PlainMatcher) where
 pub asked_plain : (limits : Limits) (matcher : Option Text) (t u : Tree) → IsAsked limits matcher t (Ok u) → HasNoExtension t → HasNoExtension u
 asked_plain limits None t u asked plain =
     let same : u ≡ t = cc in subst HasNoExtension (sym same) plain
-asked_plain limits (Some matcher) t u asked plain = subst HasNoExtension (sym asked.1.3) (enforced_plain asked.1.0 t plain)
+asked_plain limits (Some matcher) t u (v, asked, inl short) plain =
+    let same : u ≡ v = cc in subst HasNoExtension (sym (same ∙ asked.1.3)) (enforced_plain asked.1.0 t plain)
+asked_plain limits (Some matcher) t u (v, asked, inr long) plain = absurd cc
 
 pub asked_low : (limits : Limits) (matcher : Option Text) (t u : Tree) → IsAsked limits matcher t (Ok u) → height t ≤ MAX_DEPTH → height u ≤ MAX_DEPTH
 asked_low limits None t u asked low =
     let same : u ≡ t = cc in subst (λ v. height v ≤ MAX_DEPTH) (sym same) low
-asked_low limits (Some matcher) t u asked low =
-    subst (λ n. n ≤ MAX_DEPTH) (sym (ap height asked.1.3 ∙ height_enforced asked.1.0 t)) low
+asked_low limits (Some matcher) t u (v, asked, inl short) low =
+    let same : u ≡ v = cc in subst (λ n. n ≤ MAX_DEPTH) (sym (ap height (same ∙ asked.1.3) ∙ height_enforced asked.1.0 t)) low
+asked_low limits (Some matcher) t u (v, asked, inr long) low = absurd cc

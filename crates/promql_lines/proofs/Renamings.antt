@@ -1,6 +1,6 @@
 -- Why a tree was not renamed, if it was not.
 use Rattle.std.proofs.Common.{◌≡◌, ◌∙◌, ap, refl, subst, true, false, ◌||◌}
-use Rattle.std.specs.Prelude.{◌↔◌, Bool, IfErr, Result, Ok, Err, Some, None, if◌then◌else◌}
+use Rattle.std.specs.Prelude.{◌↔◌, Bool, IfErr, Result, Some, None, if◌then◌else◌}
 use Rattle.promql_text.specs.Texts.{Text}
 use Rattle.promql_ast.specs.Tree.{Tree}
 use Rattle.promql_rewrite.specs.Renaming.{of_label, of_metric, clashes, is_metric_label, is_name}

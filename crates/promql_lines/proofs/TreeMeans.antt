@@ -1,7 +1,6 @@
 -- A line that was read again and is the tree's means the tree.
-use Rattle.std.proofs.Common.{◌≡◌, Ok, refl, subst, sym, true}
+use Rattle.std.proofs.Common.{◌≡◌, refl, subst, sym, true}
 use Rattle.promql_text.specs.Texts.{Text}
-use Rattle.promql_ast.specs.Normal.{normal}
 use Rattle.promql_ast.specs.Text.{text as line_text}
 use Rattle.promql_ast.specs.Tree.{Tree}
 use Rattle.promql_syntax.specs.ParseAnswers.{IsServed}

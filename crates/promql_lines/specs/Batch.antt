@@ -1,5 +1,5 @@
 -- What a batch answers to its lines (docs/reference/programs.md).
-use Rattle.std.specs.Prelude.{◌≡◌, ◌≢◌, ◌⊎◌, ℕ, ◌++◌, List, [], ◌∷◌, All, Bool, true, false, IfSome, Option, Some, None, Result, Ok, Err, codes, map, string_bytes}
+use Rattle.std.specs.Prelude.{◌≡◌, ◌≢◌, ◌≤◌, ◌⊎◌, ℕ, ◌++◌, List, [], ◌∷◌, length, All, Bool, true, false, IfSome, Option, Some, None, Result, Ok, Err, codes, map, string_bytes}
 use Rattle.std.specs.List.{AllByRecursion, list_all}
 use Rattle.std.specs.Str.{IsUtf8}
 use Rattle.std.specs.Io.{StopsAt}
@@ -10,11 +10,14 @@ use Rattle.json.specs.Print.{print}
 use Rattle.serde_json.specs.Read.{read}
 use Rattle.serde_json.specs.Written.{compact_text}
 use Rattle.promql_text.specs.Texts.{Text}
+use Rattle.promql_ast.specs.Text.{text as line_text}
 use Rattle.promql_ast.specs.Tree.{Tree}
 use Rattle.promql_run.specs.Ended.{AppendsBeginning}
 use Rattle.promql_json.specs.JsonParts.{list}
+use Rattle.promql_span.specs.QueryLimits.{IsLongOutput}
 use Rattle.promql_span.specs.Targets.{for_rules}
 use Rattle.promql_span.specs.declared.limits.Limits.{Limits}
+use Rattle.promql_span.specs.declared.limits.LongOutput.{LongOutput}
 use Rattle.promql_lines.specs.EnforcedLines.{Enforces}
 use Rattle.promql_lines.specs.QueryErrors.{Prints, ReadsQuery, Then, query_error_number, rejected_in}
 use Rattle.promql_lines.specs.declared.mode.Mode.{Mode}
@@ -45,9 +48,19 @@ Asks format line (Err error.NotARequest) = IsUtf8 line × (requested format line
 Asks format line (Err (error.UnknownMember name)) = IsUtf8 line × (unknown_member line ≡ Some (string_bytes name))
 Asks format line (Err e) = e ≡ error.Memory
 
+-- a tree whose line is not longer than an output may be
+abbrev pub HasShortLine : Limits → Tree → Result Tree QueryError → Type 0
+HasShortLine limits u made =
+    ((length (line_text u) ≤ limits.max_output) × (made ≡ Ok u))
+    ⊎ ((fault : LongOutput) × IsLongOutput (line_text u) limits fault × (made ≡ Err (error.LongOutput fault)))
+
+-- the tree with the matcher in its selectors; in any mode its line is no longer than an output may be
+abbrev pub EnforcesShort : Limits → Text → Tree → Result Tree QueryError → Type 0
+EnforcesShort limits matcher t = Then (Enforces limits matcher t) (HasShortLine limits)
+
 -- "Requests": what is printed of the query's tree, with the matcher in its selectors; no matcher is asked for beside places
 abbrev pub PrintsAsked : Limits → Text → Mode → Option Text → Tree → Result Text QueryError → Type 0
-PrintsAsked limits query (mode.Plain format) (Some matcher) t = Then (Enforces limits matcher t) (Prints limits query (mode.Plain format))
+PrintsAsked limits query (mode.Plain format) (Some matcher) t = Then (EnforcesShort limits matcher t) (Prints limits query (mode.Plain format))
 PrintsAsked limits query m matcher t = Prints limits query m t
 
 -- a target counts only where a matcher is enforced

@@ -21,8 +21,7 @@ use Rattle.promql_run.specs.declared.format.Format.{Format}
 use Rattle.promql_run.specs.declared.format.Format.TheVariants as format
 use Rattle.promql_run.specs.declared.run.RunError.{RunError}
 use Rattle.promql_run.specs.declared.run.RunError.TheVariants as error
-use Rattle.promql_lines.specs.Batch.{Asks, IsLineAnswer, IsPlainAnswer, PrintsAsked, PrintsQuery, value_text}
-use Rattle.promql_lines.specs.EnforcedLines.{Enforces}
+use Rattle.promql_lines.specs.Batch.{Asks, EnforcesShort, IsLineAnswer, IsPlainAnswer, PrintsAsked, PrintsQuery, value_text}
 use Rattle.promql_lines.specs.QueryErrors.{Prints, Then}
 use Rattle.promql_lines.specs.Requests.{is_member_name}
 use Rattle.promql_lines.specs.Telling.{Tells}
@@ -88,7 +87,7 @@ IsTreeAnswer limits format t = IsAnswerWith (mode.Plain format) (PrintsFormat li
 -- the tree with a matcher in its selectors, or as it is
 abbrev pub IsAsked : Limits → Option Text → Tree → Result Tree QueryError → Type 0
 IsAsked limits None t made = made ≡ Ok t
-IsAsked limits (Some matcher) t made = Enforces limits matcher t made
+IsAsked limits (Some matcher) t made = EnforcesShort limits matcher t made
 
 -- what is printed of that
 abbrev pub IsAskedPrint : Limits → Option Text → Format → Tree → Result Text QueryError → Type 0

@@ -1,6 +1,6 @@
 //! The line of a query with a matcher in its selectors: docs/guide/rewriting.md, "Enforcing".
 
-ghost use Rattle.std.specs.Prelude.{◌≡◌, ◌<◌, Err, IfErr, IfOk, Ok, length, string_bytes};
+ghost use Rattle.std.specs.Prelude.{◌≡◌, ◌<◌, ◌≤◌, Err, IfErr, IfOk, Ok, length, string_bytes};
 ghost use Rattle.promql_ast.specs.Text.{text as line_text};
 ghost use Rattle.promql_ast.specs.Tree.{Tree};
 ghost use Rattle.promql_ast.specs.View.{tree_of};
@@ -37,6 +37,7 @@ pub(crate) fn enforced_within(
     most: usize,
 ) -> Result<Expr, NotEnforced>
     ensures ok { IfOk result (λ e. Enforces limits.now matcher.now (tree_of expr) (Ok (tree_of e))) }
+    ensures short { IfOk result (λ e. length (line_text (tree_of e)) ≤ most) }
     ensures err { IfErr result (IsNotEnforced limits.now matcher.now (tree_of expr) most) }
 {
     if let Err(error) = check_matcher(alloc, limits, matcher) {

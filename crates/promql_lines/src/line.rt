@@ -14,9 +14,8 @@ ghost use Rattle.promql_syntax.specs.ParseAnswers.{IsAnswerTo};
 ghost use Rattle.promql_syntax.specs.declared.parser.TheConstants.{MAX_DEPTH};
 ghost use Rattle.promql_run.specs.Extensions.{HasNoExtension};
 ghost use Rattle.promql_run.specs.declared.format.Format as formats;
-ghost use Rattle.promql_lines.specs.EnforceSteps.{longest_line};
 ghost use Rattle.promql_lines.specs.BatchSteps.{FailsWith, IsAsked, IsAskedAnswer, IsAskedPrint, IsModeAnswer, IsOkLine, IsPlacedAnswer, IsQueryAnswer, IsTreeAnswer, PrintsFormat};
-ghost use Rattle.promql_lines.specs.Batch.{IsErrorText, IsLineAnswer, IsPlainAnswer, PrintsAsked, PrintsQuery, error_value, limits_of};
+ghost use Rattle.promql_lines.specs.Batch.{HasShortLine, IsErrorText, IsLineAnswer, IsPlainAnswer, PrintsAsked, PrintsQuery, error_value, limits_of};
 ghost use Rattle.promql_lines.specs.QueryErrors.{Prints, ReadsQuery, query_error_number, rejected_in};
 ghost use Rattle.promql_lines.specs.Telling.{IsToldWith};
 ghost use Rattle.promql_lines.specs.Requests as spec;
@@ -64,43 +63,31 @@ fn read_value(alloc: Global, line: &str) -> Result<Option<Value>, AllocError>
     }
 }
 
-/// How many bytes the line of a tree with a matcher may have that is printed in a format.
-fn longest_line(limits: &Limits, format: Format) -> usize
-    ensures { result ≡ longest_line limits.now format }
-{
-    match format {
-        Format::Line => limits.max_output,
-        Format::Pretty(_) | Format::Json => usize::MAX,
-    }
-}
-
-/// The error of a line of so many bytes, which are too many.
+/// The error of a line of so many bytes, which are more than an output may have.
 fn long_line(limits: &Limits, len: usize) -> QueryError
-    ensures { (format : formats.Format) (u : Tree) → len ≡ length (line_text u) → longest_line limits.now format < len
-        → PrintsFormat limits.now format u (Err result) }
+    ensures { (u : Tree) → len ≡ length (line_text u) → limits.now.max_output < len → HasShortLine limits.now u (Err result) }
 {
     let most = limits.max_output;
     QueryError::LongOutput(LongOutput { len, most })
 }
 
-/// The expression with the matcher of the text in every selector, if there is one. No line is made that would be too long to be
-/// printed.
+/// The expression with the matcher of the text in every selector, if there is one. None is made whose line is longer than an output
+/// may be.
 fn enforced(
     alloc: Global,
     limits: &Limits,
-    format: Format,
     expr: Expr,
     matcher: Option<&str>,
 ) -> Result<Expr, QueryError>
     ensures ok { IfOk result (λ e.
         IsAsked limits.now (option_map (λ s. s.now) matcher.entry) (tree_of expr) (Ok (tree_of e))) }
     ensures err { IfErr result (λ e.
-        IsAskedPrint limits.now (option_map (λ s. s.now) matcher.entry) format (tree_of expr) (Err e)) }
+        IsAsked limits.now (option_map (λ s. s.now) matcher.entry) (tree_of expr) (Err e)) }
 {
     let Some(text) = matcher else {
         return Ok(expr);
     };
-    match enforced_within(alloc, limits, expr, text, longest_line(limits, format)) {
+    match enforced_within(alloc, limits, expr, text, limits.max_output) {
         Ok(enforced) => Ok(enforced),
         Err(NotEnforced::Query(error)) => Err(error),
         Err(NotEnforced::TooLong(len)) => Err(long_line(limits, len)),
@@ -156,7 +143,7 @@ fn answer_asked(
     ensures err { IfErr result (λ e. IsAskedPrint limits.now (option_map (λ s. s.now) matcher.entry) format
         (tree_of expr) (Err e)) }
 {
-    let expr = enforced(alloc, limits, format, expr, matcher)?;
+    let expr = enforced(alloc, limits, expr, matcher)?;
     let answer = answer_tree(alloc, limits, format, &expr);
     drop_expr(expr);
     answer

@@ -29,6 +29,9 @@ pub enum Measured {
     /// The line of the query with the new name.
     #[error("renamed query")]
     RenamedLine,
+    /// The new name.
+    #[error("new name")]
+    NewName,
 }
 
 /// Why there is no answer to a query.

@@ -1,17 +1,20 @@
 //! The line of a query with another name for a metric or a label: docs/guide/rewriting.md, "Renaming".
 
-ghost use Rattle.std.specs.Prelude.{Err, IfErr, IfOk, Ok, string_bytes};
+ghost use Rattle.std.specs.Prelude.{◌≡◌, ◌≤◌, Err, IfErr, IfOk, Ok, length, string_bytes};
 ghost use Rattle.promql_ast.specs.View.{tree_of};
 ghost use Rattle.promql_lines.specs.RenamedLines.{IsRenamedLine, Renames, renaming};
 ghost use Rattle.promql_lines.specs.LinesWithin.{HasLine};
 ghost use Rattle.promql_lines.specs.QueryErrors.{Then};
+ghost use Rattle.promql_lines.specs.declared.query_error.Measured.TheVariants as measured;
+ghost use Rattle.promql_lines.specs.declared.query_error.QueryError.TheVariants as errors;
+ghost use Rattle.promql_span.specs.declared.limits.LimitFault.TheVariants as limit;
 
 use crate::line_within::line_within;
 use crate::query_error::{Measured, QueryError};
 use crate::query_tree::query_tree;
 use promql_ast::{Expr, drop_expr};
 use promql_rewrite::{RenameLabelError, RenameMetricError, rename_label, rename_metric};
-use promql_span::limits::Limits;
+use promql_span::limits::{LimitFault, Limits};
 use std::alloc::Global;
 
 /// What gets another name.
@@ -23,7 +26,10 @@ pub enum Named {
     Label,
 }
 
-/// The expression with the new name.
+/// The most bytes of a new name, which is copied to each place of the old one.
+pub const MAX_NEW_NAME: usize = 1_024;
+
+/// The expression with the new name, which is short.
 fn renamed_tree(
     alloc: Global,
     expr: Expr,
@@ -31,6 +37,7 @@ fn renamed_tree(
     from: &str,
     to: &str,
 ) -> Result<Expr, QueryError>
+    requires { length to.now ≤ MAX_NEW_NAME }
     ensures ok { IfOk result (λ e. Renames (renaming named from.now to.now) (tree_of expr) (Ok (tree_of e))) }
     ensures err { IfErr result (λ e. Renames (renaming named from.now to.now) (tree_of expr) (Err e)) }
 {
@@ -49,6 +56,14 @@ fn renamed_tree(
     }
 }
 
+/// The error of a new name of so many bytes, which are too many.
+fn long_name(len: usize) -> QueryError
+    ensures { result ≡ errors.Large measured.NewName (limit.TooLong len MAX_NEW_NAME) }
+{
+    let most = MAX_NEW_NAME;
+    QueryError::Large(Measured::NewName, LimitFault::TooLong { len, most })
+}
+
 /// The line of an expression with the new name. The line is within the limits, is read again, and means the renamed tree.
 fn show_renamed(
     alloc: Global,
@@ -63,6 +78,10 @@ fn show_renamed(
     ensures err { IfErr result (λ e. Then (Renames (renaming named from.now to.now) (tree_of expr))
         (HasLine Measured.RenamedLine limits.now) (Err e)) }
 {
+    if to.len() > MAX_NEW_NAME {
+        drop_expr(expr);
+        return Err(long_name(to.len()));
+    }
     let renamed = renamed_tree(alloc, expr, named, from, to)?;
     let line = line_within(alloc, limits, Measured::RenamedLine, &renamed);
     drop_expr(renamed);
@@ -74,7 +93,8 @@ fn show_renamed(
 ///
 /// # Errors
 ///
-/// `Rejected` where the query is not within the limits, or the parser rejects it; else of a metric `NotAName` where the new name is
+/// `Rejected` where the query is not within the limits, or the parser rejects it; else `Large` where the new name has more than
+/// `MAX_NEW_NAME` bytes; else of a metric `NotAName` where the new name is
 /// none of a metric, and of a label `MetricName` where one of the names is `__name__`, else `Clash` where a list has both; else
 /// `Large` where the line is not within the limits; `Unfaithful` where it would not mean the renamed tree; `Memory` where an
 /// allocation failed.

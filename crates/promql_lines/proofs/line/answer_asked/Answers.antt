@@ -1,4 +1,4 @@
-use Rattle.std.proofs.Common.{option_map, subst, sym}
+use Rattle.std.proofs.Common.{inl, option_map, subst, sym}
 use Rattle.std.proofs.lemmas.Result.{err_from_is_err_and}
 use Rattle.std.specs.Prelude.{Err, IfErr}
 use Rattle.promql_ast.specs.View.{tree_of}
@@ -13,7 +13,7 @@ returns-in_err-expr-clause-err c =
     let same = err_from_is_err_and c.from_residual.result c.from_residual.ensures.1 in
     subst (λ r. IfErr r (λ e. IsAskedPrint limits matcher format t (Err e))) (sym same.1)
     (subst (λ e. IsAskedPrint limits matcher format t (Err e)) (sym same.2)
-    c.in_err-expr.ensures.err)
+    (inl c.in_err-expr.ensures.err))
 
 pub answer_tree-answer-requires-clause-low : goal.answer_tree-answer-requires-clause-low
 answer_tree-answer-requires-clause-low c =
