@@ -346,9 +346,9 @@ func SetLimits(maxLen, maxPatterns uint) {
 type Target uint32
 
 const (
-	// Prometheus3 is a Prometheus, to which an escape of a byte past ASCII, as "\xc3", is a byte of a text.
+	// Prometheus3 is a Prometheus, which reads some parts of queries otherwise, as -0 and "\xc3".
 	Prometheus3 Target = C.PROMQL_PROMETHEUS_3
-	// Rules are the rules of this library alone, to which it is a character.
+	// Rules are the rules of this library alone.
 	Rules Target = C.PROMQL_RULES
 )
 

@@ -352,10 +352,10 @@ pub fn set_limits(max_len: usize, max_pattern_size: usize) {
 /// What reads the queries that are sent on (`docs/reference/programs.md` of the repository, "Targets").
 #[derive(Clone, Copy, Debug, Default, PartialEq, Eq)]
 pub enum Target {
-    /// A Prometheus, to which an escape of a byte past ASCII, as `"\xc3"`, is a byte of a text.
+    /// A Prometheus, which reads some parts of queries otherwise, as `-0` and `"\xc3"`.
     #[default]
     Prometheus3,
-    /// The rules of this library alone, to which it is a character.
+    /// The rules of this library alone.
     Rules,
 }
 
