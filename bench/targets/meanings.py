@@ -1,0 +1,205 @@
+#!/usr/bin/env python3
+"""Finds which queries a Prometheus evaluates otherwise once they are printed: bench/targets/README.md.
+
+usage: bench/targets/meanings.py [--made COUNT] [--changed COUNT] [--seed SEED]
+"""
+
+from __future__ import annotations
+
+import argparse
+import collections
+import contextlib
+import itertools
+import json
+import os
+import pathlib
+import random
+import re
+import sys
+import tempfile
+import urllib.parse
+from typing import Any, Counter, Dict, Iterator, Optional, Tuple
+
+from changed import queries_of
+import compare
+import promql
+from checks import Checks
+from classes import CLASSES, TREE_CLASSES, classes_by_tree, classes_of
+from examples import ALIKE, OTHER, ZEROS_ALIKE, lines_of
+from made import Maker
+
+# Between two samples of the store, and no whole second.
+NOW = compare.BEGIN + compare.STEP * (compare.SAMPLES - 20) + 7.321
+# A longer query is not evaluated.
+LONGEST = 3000
+# How often a query is evaluated before two results are said to differ.
+TRIES = 6
+
+
+# ---- a server
+
+
+def series() -> Iterator[compare.Series]:
+    """Series that show what the classes are about: samples off the times of queries, values around zero, labels past ASCII."""
+    for job in ("api", "web"):
+        for a in ("b", "c", ""):
+            labels = {"job": job, "a": a} if a else {"job": job}
+            yield compare.Series("foo", labels, [len(job + a) + n % 7 for n in range(compare.SAMPLES)])
+            yield compare.Series("bar_total", labels, [n * len(a + job) % 500 for n in range(compare.SAMPLES)])
+    for le in ("0.1", "1", "+Inf"):
+        yield compare.Series("baz_bucket", {"le": le, "job": "api"}, [n * (1 + len(le)) for n in range(compare.SAMPLES)])
+    yield compare.Series("late", {"a": "b"}, [n if n % 40 < 10 else None for n in range(compare.SAMPLES)])
+    for value in ("-Inf", "-1", "-0", "0", "0.5", "1", "2", "+Inf", "NaN"):
+        yield compare.Series("values", {"v": value}, [value] * compare.SAMPLES)
+    for text in ("é", "Ã©", "ÿ", "\x00", "e", "\\", '"', "\n"):
+        yield compare.Series("texts", {"a": text}, [1] * compare.SAMPLES)
+
+
+class Server:
+    """A Prometheus that evaluates queries at one time and over a range, off the times of samples."""
+
+    def __init__(self, folder: pathlib.Path) -> None:
+        self._server = compare.Prometheus(folder, list(series()))
+        self.end = self._server.end
+
+    def evaluate(self, query: str) -> Tuple[Any, ...]:
+        at = {"query": query, "time": NOW}
+        ranged = {"query": query, "start": NOW - 1200, "end": NOW, "step": 130}
+        return self._ask("query", at, "sort" in query), self._ask("query_range", ranged, False)
+
+    def _ask(self, path: str, words: Dict[str, Any], is_sorted: bool) -> Tuple[str, str]:
+        """The type and the text of a result, in an order of its own unless the query may sort it; or that there is none, and why."""
+        value = json.loads(self._server.get(f"/api/v1/{path}?" + urllib.parse.urlencode(words))[1])
+        if value["status"] != "success":
+            # (a message may show the query)
+            return "rejected" if "parse error" in value["error"] else "error", value["errorType"]
+        kind, found = value["data"]["resultType"], value["data"]["result"]
+        if kind in ("vector", "matrix"):
+            found = [json.dumps(it, sort_keys=True) for it in found]
+            found = found if is_sorted else sorted(found)
+        return kind, json.dumps(found)
+
+    def differs(self, written: str, printed: str) -> Optional[Tuple[Any, Any]]:
+        """Two results that differ, where each query has but its own, however often it is evaluated."""
+        first, second = self.evaluate(written), self.evaluate(printed)
+        if first == second:
+            return None
+        ones, others = ({self.evaluate(text) for _ in range(TRIES)} for text in (written, printed))
+        if ones & others or {rounded(it) for it in ones} & {rounded(it) for it in others}:
+            return None
+        return first, second
+
+
+def rounded(found: Tuple[Any, ...]) -> str:
+    """A result whose long numbers have 13 digits: the server adds in no fixed order."""
+    return re.sub(r"-?[0-9]+\.[0-9]{6,}(?:e[-+]?[0-9]+)?", lambda it: f"{float(it[0]):.13g}", str(found))
+
+
+# ---- the comparison
+
+
+def printed_texts(query: str) -> Dict[str, str]:
+    """What the library prints for a query, each text once, by what printed it."""
+    made = {
+        "line": promql.canonical(query),
+        "layout at width 1": promql.format(query, width=1),
+        "layout at width 40": promql.format(query, width=40),
+        "formatted at width 20": promql.format_query(query, width=20),
+        "formatted at width 80": promql.format_query(query, width=80),
+    }
+    return {text: name for name, text in reversed(made.items())}
+
+
+class Comparison:
+    """Compares what queries give as they are written and as they are printed, and counts by class."""
+
+    def __init__(self, server: Server) -> None:
+        self._server = server
+        self.checks = Checks(40)
+        self.counts: Counter[str] = collections.Counter()
+        self.of_class: Counter[str] = collections.Counter()
+        self.differing: Counter[str] = collections.Counter()
+
+    def look_at(self, query: str) -> None:
+        written = self._server.evaluate(query)
+        self.counts["queries"] += 1
+        if written[0][0] == "rejected":
+            self.counts["rejected by the server"] += 1
+            return
+        self.counts["with a result"] += any(it[1] != "[]" for it in written)
+        found = classes_of(query)
+        self.checks.check(classes_by_tree(query) == TREE_CLASSES & set(found), f"by tokens and tree: {query!r} {found}")
+        self.of_class.update(found)
+        is_other = False
+        for text, name in printed_texts(query).items():
+            difference = self._server.differs(query, text)
+            is_other = is_other or difference is not None
+            self.checks.check(difference is None or bool(found), f"{name}: {query!r}\n    {text!r}\n    {str(difference)[:600]}")
+        kept = promql.format_query(query, width=40, keep_spelling=True)
+        self.checks.check(self._server.differs(query, kept) is None, f"in its spelling: {query!r}\n    {kept!r}")
+        if is_other:
+            self.counts["other once printed"] += 1
+            self.differing.update(found if len(found) == 1 else [])
+
+
+def show_examples(server: Server, checks: Checks) -> None:
+    """Whether the server gives each example otherwise once it is printed, and whether it is of its class."""
+    for name, queries in OTHER.items():
+        for query in lines_of(queries):
+            checks.check(server.differs(query, promql.canonical(query)) is not None, f"alike: {query!r}")
+            checks.check(classes_of(query) == [name], f"{name}: {query!r} is of {classes_of(query)}")
+    for query in lines_of(ALIKE + ZEROS_ALIKE):
+        checks.check(server.differs(query, promql.canonical(query)) is None, f"other: {query!r}")
+    for query in lines_of(ALIKE):
+        checks.check(not classes_of(query), f"{query!r} is of {classes_of(query)}")
+
+
+def made_queries(count: int, seed: int) -> Iterator[str]:
+    """So many queries that are made at random, and that the library accepts."""
+    maker = Maker(random.Random(seed))
+    while count > 0:
+        query = maker.query()
+        if is_accepted(query):
+            count -= 1
+            yield query
+
+
+def changed_queries(count: int, seed: int) -> Iterator[str]:
+    """So many of the queries of this repository, and changed ones, that the library accepts, and that have a tree in JSON."""
+    found = (query for query in queries_of(100 * count, seed) if is_accepted(query))
+    return itertools.islice(found, count)
+
+
+def is_accepted(query: str) -> bool:
+    if len(query) > LONGEST:
+        return False
+    try:
+        promql.parse(query)
+    except (ValueError, RecursionError):
+        return False
+    return True
+
+
+def main() -> int:
+    parser = argparse.ArgumentParser(description=__doc__)
+    parser.add_argument("--made", type=int, default=1000, help="how many queries are made at random (%(default)s)")
+    parser.add_argument("--changed", type=int, default=1000, help="how many of this repository, and changed ones, are tried (%(default)s)")
+    parser.add_argument("--seed", type=int, default=1)
+    arguments = parser.parse_args()
+    promql.set_target("rules")
+    with tempfile.TemporaryDirectory() as folder, contextlib.ExitStack() as stack:
+        server = Server(pathlib.Path(folder, "store"))
+        stack.callback(server.end)
+        comparison = Comparison(server)
+        show_examples(server, comparison.checks)
+        for query in itertools.chain(made_queries(arguments.made, arguments.seed), changed_queries(arguments.changed, arguments.seed)):
+            comparison.look_at(query)
+    print(", ".join(f"{name} {count}" for name, count in comparison.counts.items()))
+    for name in CLASSES:
+        print(f"{name}: {comparison.of_class[name]}, of no other class and other once printed {comparison.differing[name]}")
+    return comparison.checks.end()
+
+
+if __name__ == "__main__":
+    os.environ.pop("http_proxy", None)
+    sys.exit(main())
