@@ -5,9 +5,10 @@
 #                                'N passed, M failed'
 # bindings/test.sh --attack      attacks on the library, the programs of dist/, the Go proxy, the page and the tools for rule files,
 #                                in two minutes (docs/guide/security.md); some of them are among the tests above, and run again
-# bindings/test.sh --prometheus  compares what queries give before a Prometheus as they are written, printed and enforced, and the
-#                                places of errors, in a minute (bench/meaning, bench/places), where Debian's package prometheus is
-#                                installed; --install does not install it, since Debian starts a service then
+# bindings/test.sh --prometheus  compares what queries give before a Prometheus as they are written, printed and enforced, which it
+#                                accepts, and the places of errors, in two minutes (bench/meaning, bench/places, bench/targets), where
+#                                Debian's package prometheus is installed; --install does not install it, since Debian starts a service
+#                                then
 # bindings/test.sh --proxy       holds the Go proxy against a Prometheus with several tenants, in half a minute, where that is installed
 #                                (docs/guide/proxy.md)
 # bindings/test.sh --editor      tries the language server in Neovim, in Emacs, and with the extension for VS Code, in half a minute,
@@ -590,6 +591,8 @@ test_prometheus() {
     add 'queries before a Prometheus' in_python "$here/python" "$root/bench/meaning/compare.py" --rows 500 --random 500
     add 'the linter before a Prometheus' in_python "$here/python" "$root/bench/meaning/lint.py" 500
     add 'places of errors before a Prometheus' in_python "$here/python" "$root/bench/places/prometheus.py"
+    add 'classes of meanings before a Prometheus' in_python "$here/python" "$root/bench/targets/meanings.py" --made 500 --changed 100
+    add 'kinds of verdicts before a Prometheus' in_python "$here/python" "$root/bench/targets/verdicts.py" --count 17000
 }
 
 # The servers and the proxies are in the group of processes that `limited` ends.

@@ -95,9 +95,12 @@ class Maker(compare.Maker):
         return " " if piece == quote else piece
 
     def matcher(self) -> str:
-        label, value = self.pick("a", "a", "a", "job", "b", "le"), self.pick("b", "c", "x", "", "api")
         if self.rng.random() < 0.15:
-            return label + self.pick("=", "!=") + self.text()
+            return self.pick("a", "job", "b") + self.pick("=", "!=") + self.text()
+        return self.plain_matcher()
+
+    def plain_matcher(self) -> str:
+        label, value = self.pick("a", "a", "a", "job", "b", "le"), self.pick("b", "c", "x", "", "api")
         quote = self.pick('"', "'", "`")
         return label + self.pick("", " ") + self.pick("=", "=", "!=", "=~", "!~") + self.pick("", " ") + quote + value + quote
 
@@ -128,6 +131,22 @@ class Maker(compare.Maker):
             f"last_over_time(vector(time())[{moments})",
             f"{self.signs()}vector({self.scalar(1)})",
             f"{self.signs()}vector({self.scalar(1)})",
+        )
+
+    def exact(self) -> str:
+        """An expression that is other once it is printed exactly if it is of a class."""
+        matchers = ",".join(self.plain_matcher() for _ in range(self.rng.choice((1, 2, 3, 4))))
+        moment = f"{self.pick('', '-')}{self.rng.randint(0, self.rng.choice((9, 99, 2**20, 2**40)))}.{self.rng.randint(0, 999):03}"
+        present = self.pick("foo", "{__name__='foo'}") + self.pick("", f" @ {compare.BEGIN + 3001}", " offset 1m")
+        return self.pick(
+            self.text(),
+            f"absent({self.plussed(f'nope{{{matchers}}}{self.times()}')})",
+            f"absent_over_time(nope{{{matchers}}}[5m]{self.times()})",
+            f"absent_over_time((({{{matchers},__name__='nope'}}[5m])))",
+            f"timestamp({self.plussed(present)})",
+            f"last_over_time(vector(time())[10ms:1ms] @ {moment}5)",
+            f"last_over_time(vector(time())[10ms:1ms] @ {moment}{self.pick('4', '49', '51', '')}{'9' * self.rng.randint(1, 20)})",
+            f"last_over_time(vector(time())[10ms:1ms] @ {self.rng.randint(0, 10**7)}5e-4)",
         )
 
     def instant(self, depth: int) -> str:

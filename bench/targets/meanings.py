@@ -18,7 +18,7 @@ import re
 import sys
 import tempfile
 import urllib.parse
-from typing import Any, Counter, Dict, Iterator, Optional, Tuple
+from typing import Any, Callable, Counter, Dict, Iterator, Optional, Tuple
 
 from changed import queries_of
 import compare
@@ -40,19 +40,19 @@ TRIES = 6
 
 
 def series() -> Iterator[compare.Series]:
-    """Series that show what the classes are about: samples off the times of queries, values around zero, labels past ASCII."""
-    for job in ("api", "web"):
-        for a in ("b", "c", ""):
-            labels = {"job": job, "a": a} if a else {"job": job}
-            yield compare.Series("foo", labels, [len(job + a) + n % 7 for n in range(compare.SAMPLES)])
-            yield compare.Series("bar_total", labels, [n * len(a + job) % 500 for n in range(compare.SAMPLES)])
-    for le in ("0.1", "1", "+Inf"):
-        yield compare.Series("baz_bucket", {"le": le, "job": "api"}, [n * (1 + len(le)) for n in range(compare.SAMPLES)])
+    """Series that show what the classes are about: samples off the times of queries, values around zero, labels past ASCII. Few values are
+    equal, since of equal ones `topk` takes any."""
+    for number, (job, a) in enumerate(itertools.product(("api", "web"), ("b", "c", ""))):
+        labels = {"job": job, "a": a} if a else {"job": job}
+        yield compare.Series("foo", labels, [number / 8 + n % 7 for n in range(compare.SAMPLES)])
+        yield compare.Series("bar_total", labels, [n * (number + 1) % 500 for n in range(compare.SAMPLES)])
+    for number, le in enumerate(("0.1", "1", "+Inf")):
+        yield compare.Series("baz_bucket", {"le": le, "job": "api"}, [n * (number + 1) for n in range(compare.SAMPLES)])
     yield compare.Series("late", {"a": "b"}, [n if n % 40 < 10 else None for n in range(compare.SAMPLES)])
     for value in ("-Inf", "-1", "-0", "0", "0.5", "1", "2", "+Inf", "NaN"):
         yield compare.Series("values", {"v": value}, [value] * compare.SAMPLES)
-    for text in ("é", "Ã©", "ÿ", "\x00", "e", "\\", '"', "\n"):
-        yield compare.Series("texts", {"a": text}, [1] * compare.SAMPLES)
+    for number, text in enumerate(("é", "Ã©", "ÿ", "\x00", "e", "\\", '"', "\n")):
+        yield compare.Series("texts", {"a": text}, [number] * compare.SAMPLES)
 
 
 class Server:
@@ -79,15 +79,14 @@ class Server:
             found = found if is_sorted else sorted(found)
         return kind, json.dumps(found)
 
-    def differs(self, written: str, printed: str) -> Optional[Tuple[Any, Any]]:
+    def differs(self, written: str, printed: str) -> Optional[Tuple[str, str]]:
         """Two results that differ, where each query has but its own, however often it is evaluated."""
-        first, second = self.evaluate(written), self.evaluate(printed)
-        if first == second:
+        if self.evaluate(written) == self.evaluate(printed):
             return None
-        ones, others = ({self.evaluate(text) for _ in range(TRIES)} for text in (written, printed))
-        if ones & others or {rounded(it) for it in ones} & {rounded(it) for it in others}:
+        ones, others = ({rounded(self.evaluate(text)) for _ in range(TRIES)} for text in (written, printed))
+        if len(ones) > 1 or len(others) > 1 or ones == others:
             return None
-        return first, second
+        return ones.pop(), others.pop()
 
 
 def rounded(found: Tuple[Any, ...]) -> str:
@@ -120,7 +119,8 @@ class Comparison:
         self.of_class: Counter[str] = collections.Counter()
         self.differing: Counter[str] = collections.Counter()
 
-    def look_at(self, query: str) -> None:
+    def look_at(self, query: str, is_exact: bool = False) -> None:
+        """Compares what a query gives. An exact one is other once it is printed exactly if it is of a class."""
         written = self._server.evaluate(query)
         self.counts["queries"] += 1
         if written[0][0] == "rejected":
@@ -131,12 +131,14 @@ class Comparison:
         self.checks.check(classes_by_tree(query) == TREE_CLASSES & set(found), f"by tokens and tree: {query!r} {found}")
         self.of_class.update(found)
         is_other = False
+        # (a query with several results, as `topk` has of equal values, differs from none)
         for text, name in printed_texts(query).items():
             difference = self._server.differs(query, text)
             is_other = is_other or difference is not None
             self.checks.check(difference is None or bool(found), f"{name}: {query!r}\n    {text!r}\n    {str(difference)[:600]}")
         kept = promql.format_query(query, width=40, keep_spelling=True)
         self.checks.check(self._server.differs(query, kept) is None, f"in its spelling: {query!r}\n    {kept!r}")
+        self.checks.check(is_other or not found or not is_exact, f"not other: {query!r} {found}")
         if is_other:
             self.counts["other once printed"] += 1
             self.differing.update(found if len(found) == 1 else [])
@@ -154,14 +156,9 @@ def show_examples(server: Server, checks: Checks) -> None:
         checks.check(not classes_of(query), f"{query!r} is of {classes_of(query)}")
 
 
-def made_queries(count: int, seed: int) -> Iterator[str]:
+def made_queries(count: int, make: Callable[[], str]) -> Iterator[str]:
     """So many queries that are made at random, and that the library accepts."""
-    maker = Maker(random.Random(seed))
-    while count > 0:
-        query = maker.query()
-        if is_accepted(query):
-            count -= 1
-            yield query
+    return itertools.islice(filter(is_accepted, iter(make, None)), count)
 
 
 def changed_queries(count: int, seed: int) -> Iterator[str]:
@@ -187,13 +184,16 @@ def main() -> int:
     parser.add_argument("--seed", type=int, default=1)
     arguments = parser.parse_args()
     promql.set_target("rules")
+    maker = Maker(random.Random(arguments.seed))
     with tempfile.TemporaryDirectory() as folder, contextlib.ExitStack() as stack:
         server = Server(pathlib.Path(folder, "store"))
         stack.callback(server.end)
         comparison = Comparison(server)
         show_examples(server, comparison.checks)
-        for query in itertools.chain(made_queries(arguments.made, arguments.seed), changed_queries(arguments.changed, arguments.seed)):
+        for query in itertools.chain(made_queries(arguments.made, maker.query), changed_queries(arguments.changed, arguments.seed)):
             comparison.look_at(query)
+        for query in made_queries(arguments.made // 4, maker.exact):
+            comparison.look_at(query, is_exact=True)
     print(", ".join(f"{name} {count}" for name, count in comparison.counts.items()))
     for name in CLASSES:
         print(f"{name}: {comparison.of_class[name]}, of no other class and other once printed {comparison.differing[name]}")
