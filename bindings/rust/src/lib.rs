@@ -18,12 +18,14 @@
 //! Any thread may call any function at any time. What is proved of the calls, and what is not, is in
 //! `docs/guide/bindings.md` of the repository.
 
+mod child;
 mod function;
 mod function_table;
 mod json;
 mod library;
 mod members;
 mod node_faults;
+mod own_parts;
 mod print_tree;
 mod read_form;
 mod read_node;
@@ -32,6 +34,7 @@ mod tree;
 mod visitor;
 mod write_form;
 
+pub use child::{Child, Children};
 pub use function::{Function, ValueType, get_function};
 pub use print_tree::{NodeError, parse, places, print, print_layout};
 pub use read_form::{FormError, MOST_HEIGHT};

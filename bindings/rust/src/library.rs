@@ -214,11 +214,6 @@ pub fn check(query: &str) -> (String, Answer) {
     })
 }
 
-/// Whether the thread has the stack that a call about a query needs.
-pub fn has_stack() -> bool {
-    check("1").1.status != SMALL_STACK
-}
-
 /// As JSON.
 pub fn explain(query: &str) -> (String, Answer) {
     call(query.len(), |(buffer, size, answer)| unsafe {

@@ -1,7 +1,6 @@
 //! From the JSON form to a tree. Each member has to be there, and no other.
 
 use crate::json::{self, Value};
-use crate::library;
 use crate::members::{Fault, Members, Read};
 use crate::read_node::{BelowNode, Kind, Step, kind_of};
 use crate::tree::*;
@@ -32,8 +31,7 @@ impl Expr {
     ///
     /// # Errors
     ///
-    /// `FormError` where the text is no JSON form of a query; also where more than 64 nodes are above one another, and the thread has less
-    /// than 1.25 MiB of stack left.
+    /// `FormError` where the text is no JSON form of a query.
     pub fn from_json(form: &str) -> Result<Expr, FormError> {
         match json::read(form) {
             Some(json) => read_tree(json.value()),
@@ -46,10 +44,6 @@ impl Expr {
 pub const MOST_HEIGHT: usize = 512;
 
 const TOO_HIGH: &str = "expected a tree of at most 512 nodes above one another";
-
-/// The nodes above one another from which on a thread has to have the stack of a call: to drop, compare or show a tree takes some stack
-/// for each of them, and reading it none.
-const SMALL_HEIGHT: usize = 64;
 
 /// A node whose children are being read.
 struct Node<'a> {
@@ -68,10 +62,8 @@ fn read_tree(form: Value<'_>) -> Result<Expr, FormError> {
     let mut next = (Step::Root, form);
     loop {
         let (step, value) = next;
-        match nodes.len() {
-            MOST_HEIGHT => return Err(error_at(&nodes, &step, Fault::here(TOO_HIGH))),
-            SMALL_HEIGHT if !library::has_stack() => return Err(error_at(&[], &Step::Root, Fault::here(crate::SMALL_STACK))),
-            _ => {}
+        if nodes.len() == MOST_HEIGHT {
+            return Err(error_at(&nodes, &step, Fault::here(TOO_HIGH)));
         }
         match begin(step.clone(), value) {
             Ok(node) => nodes.push(node),

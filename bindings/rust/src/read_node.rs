@@ -1,5 +1,6 @@
 //! From the JSON form of a node to the node: what it has beside the nodes below it.
 
+use crate::child::Child;
 use crate::function::get_function;
 use crate::json::Value;
 use crate::members::{Fault, Members, Read, items_of};
@@ -42,8 +43,8 @@ impl BelowNode {
         self.left.len()
     }
 
-    fn next(&mut self) -> Box<Expr> {
-        Box::new(self.left.next().expect("each form of a child was read"))
+    fn next(&mut self) -> Child {
+        self.left.next().expect("each form of a child was read").into()
     }
 }
 

@@ -1,5 +1,6 @@
 //! The nodes of a tree.
 
+use crate::child::{Child, Children};
 use crate::function::{Function, get_function};
 use std::fmt;
 use std::mem;
@@ -9,7 +10,9 @@ use std::mem;
 /// [`parse`](crate::parse) and `FromStr` read one, [`print()`](crate::print) and `Display` print it, and [`Expr::to_json`] and
 /// [`Expr::from_json`] are the ways to and from the JSON form (`docs/reference/json.md` of the repository), which has all that a tree has.
 /// Times and lengths of time are whole milliseconds.
-#[derive(PartialEq, Eq, Hash)]
+///
+/// Nothing that is done with a tree needs more stack for a higher one: it is walked, copied, compared, hashed, shown and dropped without
+/// recursion.
 pub enum Expr {
     /// An aggregation, as `sum by (job) (up)`.
     Aggregate(AggregateExpr),
@@ -39,9 +42,9 @@ pub struct AggregateExpr {
     /// The operator: `sum`, `topk` and so on.
     pub op: String,
     /// What is aggregated.
-    pub expr: Box<Expr>,
+    pub expr: Child,
     /// What operators such as `topk` have before the expression.
-    pub param: Option<Box<Expr>>,
+    pub param: Option<Child>,
     /// The labels after `by`, or after `without`.
     pub grouping: Vec<String>,
     /// Whether the word is `without`.
@@ -52,7 +55,7 @@ pub struct AggregateExpr {
 #[derive(Clone, Debug, PartialEq, Eq, Hash)]
 pub struct UnaryExpr {
     /// The operand.
-    pub expr: Box<Expr>,
+    pub expr: Child,
 }
 
 /// A binary expression.
@@ -61,9 +64,9 @@ pub struct BinaryExpr {
     /// The operator: `+`, `==`, `and` and so on.
     pub op: String,
     /// The left side.
-    pub lhs: Box<Expr>,
+    pub lhs: Child,
     /// The right side.
-    pub rhs: Box<Expr>,
+    pub rhs: Child,
     /// Whether the word `bool` is there.
     pub return_bool: bool,
     /// How the sides match.
@@ -110,14 +113,14 @@ pub struct VectorMatchFillValues {
 #[derive(Clone, Debug, PartialEq, Eq, Hash)]
 pub struct ParenExpr {
     /// The expression inside.
-    pub expr: Box<Expr>,
+    pub expr: Child,
 }
 
 /// A subquery.
 #[derive(Clone, Debug, PartialEq, Eq, Hash)]
 pub struct SubqueryExpr {
     /// The expression before the bracket.
-    pub expr: Box<Expr>,
+    pub expr: Child,
     /// The range in milliseconds.
     pub range: u64,
     /// The step in milliseconds.
@@ -247,7 +250,7 @@ pub struct Call {
     /// The name of the function.
     pub name: String,
     /// The arguments.
-    pub args: Vec<Expr>,
+    pub args: Children,
 }
 
 impl Call {
@@ -296,13 +299,13 @@ impl Expr {
 
     /// A call of the function of this name. One of another name has no text: [`print()`](crate::print) says so.
     pub fn call(name: &str, args: impl Into<Vec<Expr>>) -> Expr {
-        Expr::Call(Call { name: name.to_string(), args: args.into() })
+        Expr::Call(Call { name: name.to_string(), args: args.into().into() })
     }
 
     /// An aggregation of an expression, by these labels.
     pub fn aggregate_by(op: &str, labels: &[&str], expr: Expr) -> Expr {
         let grouping = labels.iter().map(ToString::to_string).collect();
-        Expr::Aggregate(AggregateExpr { op: op.to_string(), expr: Box::new(expr), param: None, grouping, without: false })
+        Expr::Aggregate(AggregateExpr { op: op.to_string(), expr: expr.into(), param: None, grouping, without: false })
     }
 
     /// The selector of a selector or of one with a range.
@@ -323,14 +326,7 @@ impl Expr {
 
     /// The expressions right below: the parameter of an aggregation comes before what is aggregated.
     pub fn children(&self) -> Vec<&Expr> {
-        match self {
-            Expr::Aggregate(it) => it.param.iter().map(|param| &**param).chain([&*it.expr]).collect(),
-            Expr::Binary(it) => vec![&it.lhs, &it.rhs],
-            Expr::Call(it) => it.args.iter().collect(),
-            Expr::Paren(ParenExpr { expr }) | Expr::Unary(UnaryExpr { expr }) => vec![expr],
-            Expr::Subquery(it) => vec![&it.expr],
-            Expr::NumberLiteral(_) | Expr::StringLiteral(_) | Expr::VectorSelector(_) | Expr::MatrixSelector(_) => Vec::new(),
-        }
+        (0..).map_while(|number| self.child(number)).collect()
     }
 
     /// The same, to be changed.
@@ -346,6 +342,26 @@ impl Expr {
     }
 
     /// The child of this number, in the order of [`Expr::children`].
+    pub(crate) fn child(&self, number: usize) -> Option<&Expr> {
+        match self {
+            Expr::Aggregate(it) => match (&it.param, number) {
+                (Some(param), 0) => Some(param),
+                (Some(_), 1) | (None, 0) => Some(&it.expr),
+                _ => None,
+            },
+            Expr::Binary(it) => match number {
+                0 => Some(&it.lhs),
+                1 => Some(&it.rhs),
+                _ => None,
+            },
+            Expr::Call(it) => it.args.get(number),
+            Expr::Paren(ParenExpr { expr }) | Expr::Unary(UnaryExpr { expr }) => (number == 0).then_some(expr),
+            Expr::Subquery(it) => (number == 0).then_some(&it.expr),
+            Expr::NumberLiteral(_) | Expr::StringLiteral(_) | Expr::VectorSelector(_) | Expr::MatrixSelector(_) => None,
+        }
+    }
+
+    /// The same, to be changed.
     pub(crate) fn child_mut(&mut self, number: usize) -> Option<&mut Expr> {
         match self {
             Expr::Aggregate(it) => match (&mut it.param, number) {
@@ -365,10 +381,14 @@ impl Expr {
         }
     }
 
-    /// Takes the child of this number out, and leaves an empty string in its place, which allocates nothing.
+    /// Takes the expression out, and leaves an empty string in its place, which allocates nothing.
+    pub(crate) fn take(&mut self) -> Expr {
+        mem::replace(self, Expr::StringLiteral(StringLiteral { val: String::new() }))
+    }
+
+    /// Takes the child of this number out.
     pub(crate) fn take_child(&mut self, number: usize) -> Option<Expr> {
-        let child = self.child_mut(number)?;
-        Some(mem::replace(child, Expr::StringLiteral(StringLiteral { val: String::new() })))
+        self.child_mut(number).map(Expr::take)
     }
 
     /// Puts an expression in the place of the child of this number, which is there.
@@ -382,22 +402,22 @@ impl Expr {
     pub(crate) fn over(&self, mut child: impl FnMut() -> Expr) -> Expr {
         match self {
             Expr::Aggregate(it) => {
-                let param = it.param.is_some().then(|| Box::new(child()));
+                let param = it.param.is_some().then(|| child().into());
                 let (op, grouping, without) = (it.op.clone(), it.grouping.clone(), it.without);
-                Expr::Aggregate(AggregateExpr { op, expr: Box::new(child()), param, grouping, without })
+                Expr::Aggregate(AggregateExpr { op, expr: child().into(), param, grouping, without })
             }
             Expr::Binary(it) => {
-                let (lhs, rhs) = (Box::new(child()), Box::new(child()));
+                let (lhs, rhs) = (child().into(), child().into());
                 let (op, return_bool, matching) = (it.op.clone(), it.return_bool, it.matching.clone());
                 Expr::Binary(BinaryExpr { op, lhs, rhs, return_bool, matching })
             }
             Expr::Call(it) => Expr::Call(Call { name: it.name.clone(), args: it.args.iter().map(|_| child()).collect() }),
-            Expr::Paren(_) => Expr::Paren(ParenExpr { expr: Box::new(child()) }),
+            Expr::Paren(_) => Expr::Paren(ParenExpr { expr: child().into() }),
             Expr::Subquery(it) => {
                 let &SubqueryExpr { range, step, offset, at, .. } = it;
-                Expr::Subquery(SubqueryExpr { expr: Box::new(child()), range, step, offset, at })
+                Expr::Subquery(SubqueryExpr { expr: child().into(), range, step, offset, at })
             }
-            Expr::Unary(_) => Expr::Unary(UnaryExpr { expr: Box::new(child()) }),
+            Expr::Unary(_) => Expr::Unary(UnaryExpr { expr: child().into() }),
             Expr::NumberLiteral(it) => Expr::NumberLiteral(it.clone()),
             Expr::StringLiteral(it) => Expr::StringLiteral(it.clone()),
             Expr::VectorSelector(it) => Expr::VectorSelector(it.clone()),
@@ -435,7 +455,6 @@ impl Expr {
 }
 
 impl Clone for Expr {
-    /// Made without recursion, which would need more stack than all else that is done with a tree.
     fn clone(&self) -> Expr {
         let found: Vec<&Expr> = self.walk().collect();
         let mut made: Vec<Expr> = Vec::new();
@@ -466,7 +485,9 @@ impl<'a> Iterator for Walk<'a> {
 
     fn next(&mut self) -> Option<&'a Expr> {
         let expr = self.left.pop()?;
-        self.left.extend(expr.children().into_iter().rev());
+        let first = self.left.len();
+        self.left.extend((0..).map_while(|number| expr.child(number)));
+        self.left[first..].reverse();
         Some(expr)
     }
 }

@@ -8,7 +8,6 @@ use std::time::{Duration, Instant};
 
 const ONE: &str = r#"{"type":"numberLiteral","val":"1"}"#;
 const TOO_HIGH: &str = "expected a tree of at most 512 nodes above one another";
-const SMALL_STACK: &str = "the thread has less than 1.25 MiB of stack left";
 
 /// What is before and after an expression in the form of one of each kind above it.
 const AROUND: [(&str, &str); 7] = [
@@ -43,20 +42,12 @@ fn said(form: &str) -> Result<(), FormError> {
 }
 
 #[test]
-fn forms_of_any_height_are_read_with_any_stack() {
-    for kib in [64, 128, 256, 1024, 1536, 2048] {
-        for around in AROUND {
-            for count in [63, 64, 511, 512, 5_000] {
-                let form = high_form(around, count);
-                let outcome = with_stack(kib, || said(&form));
-                let is_small = matches!(&outcome, Err(error) if error.message == SMALL_STACK && error.path == "$");
-                let is_so = match count {
-                    63 => outcome.is_ok(),
-                    64..=511 => outcome.is_ok() || is_small && kib < 1280,
-                    _ => matches!(&outcome, Err(error) if error.message == TOO_HIGH) || is_small && kib < 1280,
-                };
-                assert!(is_so, "{count} times {} with {kib} KiB: {outcome:?}", around.0);
-            }
+fn forms_of_any_height_are_read_with_little_stack() {
+    for around in AROUND {
+        for (count, is_read) in [(63, true), (511, true), (512, false), (5_000, false)] {
+            let outcome = with_stack(64, || said(&high_form(around, count)));
+            let is_so = if is_read { outcome.is_ok() } else { matches!(&outcome, Err(error) if error.message == TOO_HIGH) };
+            assert!(is_so, "{count} times {}: {outcome:?}", around.0);
         }
     }
 }
@@ -81,29 +72,144 @@ fn texts_of_any_depth_are_read_with_little_stack() {
     assert_eq!(with_stack(64, || said(&members)).unwrap_err().to_string(), "$.type: expected such a member");
 }
 
-/// All that is done with a tree by recursion, and more.
-fn use_tree(form: &str) {
-    let tree = Expr::from_json(form).unwrap();
-    let mut copy = tree.clone();
-    assert!(copy == tree);
-    let hash = |tree: &Expr| {
-        let mut hasher = DefaultHasher::new();
-        tree.hash(&mut hasher);
-        hasher.finish()
-    };
-    assert_eq!(hash(&copy), hash(&tree));
-    assert_eq!(format!("{tree:?}"), format!("Expr({form})", form = tree.to_json()));
-    assert_eq!(format!("{tree:#?}"), format!("{tree:?}"));
-    assert_eq!(walk_expr_mut(&mut Count(0), &mut copy), Ok(true));
-    assert_eq!(copy.transform(&mut |it| it), tree);
-    assert_eq!(print(&tree).unwrap_err().to_string(), "$: nested too deeply");
+fn hash_of(tree: &Expr) -> u64 {
+    let mut hasher = DefaultHasher::new();
+    tree.hash(&mut hasher);
+    hasher.finish()
+}
+
+/// A tree of so many expressions of a kind above one another, for each kind that has children and each place of them.
+fn high_trees(count: usize) -> impl Iterator<Item = Expr> {
+    let kinds: [fn(Expr) -> Expr; 10] = [
+        |expr| Expr::Paren(ParenExpr { expr: expr.into() }),
+        |expr| Expr::Unary(UnaryExpr { expr: expr.into() }),
+        |expr| Expr::Subquery(SubqueryExpr { expr: expr.into(), range: 1, step: None, offset: 0, at: None }),
+        |expr| aggregate(expr, None),
+        |expr| aggregate(expr, Some(Expr::from(1.0))),
+        |expr| aggregate(Expr::from(1.0), Some(expr)),
+        |expr| add(expr, Expr::from(1.0)),
+        |expr| add(Expr::from(1.0), expr),
+        |expr| Expr::call("abs", [expr]),
+        |expr| Expr::call("label_join", [Expr::from(1.0), expr, Expr::from(1.0)]),
+    ];
+    kinds.into_iter().map(move |put_above| (0..count).fold(Expr::selector("a"), |expr, _| put_above(expr)))
+}
+
+fn aggregate(expr: Expr, param: Option<Expr>) -> Expr {
+    let param = param.map(Child::from);
+    Expr::Aggregate(AggregateExpr { op: String::from("topk"), expr: expr.into(), param, grouping: Vec::new(), without: false })
+}
+
+fn add(lhs: Expr, rhs: Expr) -> Expr {
+    Expr::Binary(BinaryExpr { op: String::from("+"), lhs: lhs.into(), rhs: rhs.into(), return_bool: false, matching: None })
 }
 
 #[test]
-fn what_is_done_with_a_high_tree_has_the_stack_of_a_call() {
-    for around in AROUND {
-        // (it takes some for itself)
-        with_stack(1280 + 32, || use_tree(&high_form(around, 511)));
+fn a_tree_of_a_million_levels_is_dropped_with_little_stack() {
+    for tree in high_trees(1_000_000) {
+        with_stack(256, || drop(tree));
+    }
+}
+
+/// A struct, a box and a vector of high trees, each by itself, and the first of them out of its enum.
+#[test]
+fn parts_of_a_high_tree_are_dropped_with_little_stack() {
+    with_stack(256, || {
+        for tree in high_trees(100_000) {
+            let args = Children::from(vec![tree.clone(), Expr::from(1.0), tree.clone()]);
+            drop(args.clone());
+            drop(args.into_iter());
+            let mut boxed = Child::from(tree.clone());
+            drop(std::mem::replace(&mut *boxed, Expr::from(1.0)));
+            match tree {
+                Expr::Aggregate(AggregateExpr { expr, param, .. }) => drop((expr, param)),
+                Expr::Binary(BinaryExpr { lhs, rhs, .. }) => drop((lhs, rhs)),
+                Expr::Call(Call { args, .. }) => drop(args.into_inner()),
+                Expr::Paren(it) => drop(it),
+                other => drop(Box::new(other)),
+            }
+        }
+    });
+}
+
+#[test]
+fn what_is_done_with_a_high_tree_needs_little_stack() {
+    for mut tree in high_trees(20_000) {
+        with_stack(256, || {
+            let mut copy = tree.clone();
+            assert!(copy == tree);
+            assert_eq!(hash_of(&copy), hash_of(&tree));
+            assert_eq!(format!("{tree:#?}"), format!("Expr({})", tree.to_json()));
+            let (mut seen, mut changed) = (Count(0), Count(0));
+            assert_eq!((walk_expr(&mut seen, &tree), walk_expr_mut(&mut changed, &mut tree)), (Ok(true), Ok(true)));
+            assert_eq!((seen.0, changed.0), (tree.walk().count(), tree.walk().count()));
+            assert_eq!(Expr::from_json(&tree.to_json()).unwrap_err().message, TOO_HIGH);
+            copy = copy.transform(&mut |it| match it {
+                Expr::VectorSelector(_) => Expr::selector("b"),
+                other => other,
+            });
+            assert!(copy != tree);
+        });
+    }
+}
+
+/// Trees that differ in one part at the lowest place differ, and so do trees with the same expressions at other places.
+#[test]
+fn trees_that_differ_are_not_equal() {
+    let queries = [
+        "a",
+        "b",
+        "a{b='c'}",
+        "a offset 1m",
+        "a @ 1",
+        "a[1m]",
+        "a[2m]",
+        "1",
+        "2",
+        "'1'",
+        "'2'",
+        "-a",
+        "(a)",
+        "-(-a)",
+        "(-a)",
+        "a[1h:]",
+        "a[1h:1m]",
+        "a[2h:]",
+        "a[1h:] @ 1",
+        "a[1h:] offset 1m",
+        "sum(a)",
+        "min(a)",
+        "sum by (b) (a)",
+        "sum without (b) (a)",
+        "topk(1, a)",
+        "topk(2, a)",
+        "bottomk(1, a)",
+        "a + b",
+        "b + a",
+        "a - b",
+        "a == b",
+        "a == bool b",
+        "a + on (c) b",
+        "a + ignoring (c) b",
+        "a + on (c) group_left (d) b",
+        "a + b + c",
+        "a + (b + c)",
+        "time()",
+        "abs(a)",
+        "ceil(a)",
+        "round(a)",
+        "round(a, 1)",
+        "round(a, 2)",
+        "label_join(a, 'b', 'c')",
+        "label_join(a, 'b', 'c', 'd')",
+    ];
+    let trees: Vec<Expr> =
+        queries.iter().map(|query| format!("abs(-({query}))").parse().unwrap_or_else(|_| parse(query).unwrap())).collect();
+    for (number, tree) in trees.iter().enumerate() {
+        for (other_number, other) in trees.iter().enumerate() {
+            assert_eq!(tree == other, number == other_number, "{tree} and {other}");
+            assert_eq!(hash_of(tree) == hash_of(other), number == other_number, "{tree} and {other}");
+        }
     }
 }
 
@@ -127,41 +233,32 @@ impl ExprVisitorMut for Count {
 }
 
 #[test]
-fn a_tree_of_any_height_that_a_program_made_is_walked_written_and_changed() {
+fn a_tree_of_any_height_that_a_program_made_is_printed_or_taken_apart() {
     const COUNT: usize = 100_000;
     let high = |mut tree: Expr| {
         for number in 0..COUNT {
             tree = match number % 3 {
-                0 => Expr::Paren(ParenExpr { expr: Box::new(tree) }),
+                0 => Expr::Paren(ParenExpr { expr: tree.into() }),
                 1 => Expr::call("abs", [tree]),
-                _ => Expr::Unary(UnaryExpr { expr: Box::new(tree) }),
+                _ => Expr::Unary(UnaryExpr { expr: tree.into() }),
             };
         }
         tree
     };
-    let mut tree = high(Expr::selector("a"));
+    let tree = high(Expr::selector("a"));
     let unwrapped = with_stack(1400, || {
-        let (mut seen, mut changed) = (Count(0), Count(0));
-        assert_eq!((walk_expr(&mut seen, &tree), walk_expr_mut(&mut changed, &mut tree)), (Ok(true), Ok(true)));
-        assert_eq!((tree.walk().count(), seen.0, changed.0), (COUNT + 1, COUNT + 1, COUNT + 1));
         set_max_tree(8 << 20);
         let error = print(&tree).unwrap_err();
         set_max_tree(4 << 20);
         assert_eq!(error.to_string(), "$: nested too deeply");
         assert!(matches!(error, Error::Node(fault) if fault.node(&tree).children().len() == 1));
-        assert_eq!(Expr::from_json(&tree.to_json()).unwrap_err().message, TOO_HIGH);
-        // (a drop would need stack for each node, so the trees are taken apart)
-        let take_apart = |tree: Expr| {
-            tree.transform(&mut |it| match it {
-                Expr::Paren(it) => *it.expr,
-                Expr::Unary(it) => *it.expr,
-                Expr::Call(mut it) => it.args.remove(0),
-                other => other,
-            })
-        };
-        [take_apart(tree.clone()), take_apart(tree)]
+        tree.transform(&mut |it| match it {
+            Expr::Paren(ParenExpr { expr }) | Expr::Unary(UnaryExpr { expr }) => expr.into_inner(),
+            Expr::Call(Call { args, .. }) => args.into_iter().next().expect("an argument"),
+            other => other,
+        })
     });
-    assert_eq!(unwrapped, [Expr::selector("a"), Expr::selector("a")]);
+    assert_eq!(unwrapped, Expr::selector("a"));
 }
 
 /// Walks that end early leave the tree whole.
@@ -244,7 +341,7 @@ fn large_forms_are_read_quickly() {
 fn a_fault_above_much_is_found_quickly() {
     let args: Vec<Expr> = (0..4_000).map(|_| Expr::selector("a")).collect();
     let wide = Expr::call("label_join", args);
-    let high = (0..50).fold(wide, |expr, _| Expr::Paren(ParenExpr { expr: Box::new(expr) }));
+    let high = (0..50).fold(wide, |expr, _| Expr::Paren(ParenExpr { expr: expr.into() }));
     let tree = Expr::call("rate", [high]);
     let (outcome, took) = time(|| print(&tree));
     assert!(

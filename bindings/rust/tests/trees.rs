@@ -10,8 +10,8 @@ fn texts(labels: &[&str]) -> Vec<String> {
     labels.iter().map(ToString::to_string).collect()
 }
 
-fn boxed(expr: Expr) -> Box<Expr> {
-    Box::new(expr)
+fn boxed(expr: Expr) -> Child {
+    expr.into()
 }
 
 fn number(val: &str) -> Expr {
@@ -183,7 +183,7 @@ fn trees_are_changed() {
     let mut tree = parsed("sum(rate(a{b='1' or c='2'}[5m])) / topk(1, (d))");
     assert_eq!(walk_expr_mut(&mut AddMatcher(Matcher::new(MatchOp::Equal, "t", "x")), &mut tree), Ok(true));
     let tree = tree.transform(&mut |expr| match expr {
-        Expr::Paren(it) => *it.expr,
+        Expr::Paren(it) => it.expr.into_inner(),
         other => other,
     });
     assert_eq!(tree, parsed("sum(rate(a{b='1',t='x' or c='2',t='x'}[5m])) / topk(1, d{t='x'})"));

@@ -105,7 +105,7 @@ fn normal(tree: Expr) -> Expr {
             selector.matchers.or_matchers.iter_mut().for_each(|group| group.sort_by_key(key));
         }
         match expr {
-            Expr::Paren(it) => *it.expr,
+            Expr::Paren(it) => it.expr.into_inner(),
             Expr::Binary(mut it) => {
                 it.matching = it.matching.filter(|matching| *matching != VectorMatching::default());
                 Expr::Binary(it)

@@ -10,10 +10,11 @@
 //! # Ok::<(), serde_json::Error>(())
 //! ```
 
-use promql_proved::Expr;
+use promql_proved::{Expr, ExprVisitor, check, walk_expr};
 use serde::de::{Deserialize, Deserializer, Error as _};
 use serde::ser::{Error as _, Serialize, Serializer};
 use serde_json::Value;
+use std::convert::Infallible;
 
 /// An expression with `Serialize` and `Deserialize`.
 #[derive(Clone, Debug, PartialEq, Eq, Hash)]
@@ -35,12 +36,49 @@ impl<'de> Deserialize<'de> for Tree {
 ///
 /// # Errors
 ///
-/// Those of the serializer, and those of `Expr::from_json`: a number of milliseconds is below -2^63 or above 2^64 - 1, more than 512 nodes
-/// are above one another, or more than 64 and the thread has less than 1.25 MiB of stack left.
+/// Those of the serializer, and those of `Expr::from_json`: a number of milliseconds is below -2^63 or above 2^64 - 1, or more than 512
+/// nodes are above one another. Also where more than 64 are, and the thread has less than 1.25 MiB of stack left.
 pub fn serialize<S: Serializer>(expr: &Expr, serializer: S) -> Result<S::Ok, S::Error> {
     // (a number that is too wide would be rounded)
     Expr::from_json(&expr.to_json()).map_err(S::Error::custom)?;
+    if height(expr) > SMALL_HEIGHT {
+        // (any call of the library looks at the stack)
+        check("1").map_err(S::Error::custom)?;
+    }
     value_of(expr).map_err(S::Error::custom)?.serialize(serializer)
+}
+
+/// The nodes above one another from which on a thread has to have the stack of a call of the library: a value is written and dropped by
+/// recursion.
+const SMALL_HEIGHT: usize = 64;
+
+/// How many nodes of a tree are above one another at most.
+fn height(expr: &Expr) -> usize {
+    let mut height = Height::default();
+    // (neither `Ok(false)` nor an error ends it)
+    let _ = walk_expr(&mut height, expr);
+    height.most
+}
+
+#[derive(Default)]
+struct Height {
+    now: usize,
+    most: usize,
+}
+
+impl ExprVisitor for Height {
+    type Error = Infallible;
+
+    fn pre_visit(&mut self, _: &Expr) -> Result<bool, Infallible> {
+        self.now += 1;
+        self.most = self.most.max(self.now);
+        Ok(true)
+    }
+
+    fn post_visit(&mut self, _: &Expr) -> Result<bool, Infallible> {
+        self.now -= 1;
+        Ok(true)
+    }
 }
 
 /// The JSON form as a value. It is made from the leaves up, since a reader of the whole form would need more stack than all else.

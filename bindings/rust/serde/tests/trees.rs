@@ -53,7 +53,7 @@ fn other_values_are_faults() {
     let fault = serde_json::from_str::<Tree>(r#"{"type":"parenExpr","expr":{"type":"numberLiteral"}}"#).unwrap_err();
     assert!(fault.to_string().contains("$.expr.val: expected such a member"), "{fault}");
     let tree = Tree(Expr::Subquery(promql_proved::SubqueryExpr {
-        expr: Box::new(Expr::selector("a")),
+        expr: Expr::selector("a").into(),
         range: 1,
         step: None,
         offset: i128::from(u64::MAX) + 1,
