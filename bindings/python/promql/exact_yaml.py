@@ -10,22 +10,23 @@ from typing import Any, Dict, List
 from .files import Fault, FileError, Source
 from .yaml_nodes import Node, Token
 
+# What a token adds to the number of brackets that are open.
+_DEPTHS = {"[": 1, "{": 1, "]": -1, "}": -1}
+
 
 class ExactYaml:
     """A text as ruamel.yaml reads it."""
 
     def __init__(self, source: Source) -> None:
-        self._source = source
+        # Those of scalars, by their ends.
         self._tokens: Dict[int, Token] = {}
-        self.roots = _Converter().documents(_compose(source))
+        self.roots = _Converter().documents(_compose(source, self._tokens))
         self.has_aliases = True
 
     def refuse(self) -> None:
         """No other reader knows better."""
 
     def token(self, key: Node, value: Node) -> Token:
-        if not self._tokens:
-            self._tokens = _scan(self._source)
         return self._tokens[value.end]
 
 
@@ -73,14 +74,16 @@ def _yaml() -> Any:
     return importlib.import_module("ruamel.yaml")
 
 
-def _compose(source: Source) -> List[Any]:
-    """The nodes of each document of a file."""
+def _compose(source: Source, tokens: Dict[int, Token]) -> List[Any]:
+    """The nodes of each document of a file. The token of each scalar is put in by its end."""
     yaml = _yaml()
+    reader = yaml.YAML(typ="safe", pure=True)
+    reader.Scanner = _noting_scanner(yaml, tokens)
     try:
         with warnings.catch_warnings():
             # (an anchor may be there again)
             warnings.simplefilter("ignore")
-            return list(yaml.YAML(typ="safe", pure=True).compose_all(source.text))
+            return list(reader.compose_all(source.text))
     except yaml.error.MarkedYAMLError as error:
         mark = error.problem_mark or error.context_mark
         offset = mark.index if mark else 0
@@ -92,12 +95,19 @@ def _compose(source: Source) -> List[Any]:
         raise FileError(f"{source.name}: not YAML: {error}") from error
 
 
-def _scan(source: Source) -> Dict[int, Token]:
-    """The token of each scalar, by its end."""
-    found, before, depth = {}, 0, 0
-    for token in _yaml().YAML(typ="safe", pure=True).scan(source.text):
-        depth += {"[": 1, "{": 1, "]": -1, "}": -1}.get(token.id, 0)
-        if token.id == "<scalar>":
-            found[token.end_mark.index] = Token(token.start_mark.index, before, depth > 0)
-        before = token.end_mark.index
-    return found
+def _noting_scanner(yaml: Any, tokens: Dict[int, Token]) -> Any:
+    """The class of ruamel.yaml that finds tokens, which notes each scalar: so a text is scanned once."""
+    scanner: Any = yaml.scanner.Scanner
+
+    class NotingScanner(scanner):  # type: ignore[misc]
+        before, depth = 0, 0
+
+        def get_token(self) -> Any:
+            token = super().get_token()
+            if token.id == "<scalar>":
+                tokens[token.end_mark.index] = Token(token.start_mark.index, self.before, self.depth > 0)
+            self.depth += _DEPTHS.get(token.id, 0)
+            self.before = token.end_mark.index
+            return token
+
+    return NotingScanner

@@ -8,20 +8,26 @@ from __future__ import annotations
 
 import importlib
 import re
+from bisect import bisect_right
 from functools import lru_cache
-from typing import Any, Dict, List
+from typing import Any, Dict, List, Match, Tuple
 
 from .files import Source
 from .yaml_nodes import Node, Token
 
-# What libyaml, which reads YAML 1.1, may take otherwise: TABs, the line ends of Unicode, and what is not printed; directives, ends of
-# documents, and a comment at once after the sign of a block.
+# What libyaml, which reads YAML 1.1, may take otherwise: the line ends of Unicode, and what is not printed; directives, ends of documents,
+# and a comment at once after the sign of a block.
 _UNUSUAL = re.compile(
-    "[^\n\r -~\xa0-\u2027\u202a-\ud7ff\ue000-\ufefe\uff00-\ufffd\U00010000-\U0010ffff]" r"|(?:^|\r)(?:%|\.\.\.)|[|>][-+0-9]*#",
+    "[^\t\n\r -~\xa0-\u2027\u202a-\ud7ff\ue000-\ufefe\uff00-\ufffd\U00010000-\U0010ffff]" r"|(?:^|\r)(?:%|\.\.\.)|[|>][-+0-9]*#",
     re.M,
 )
+# Where a text may begin with a directive: it says what is so without it.
+_DIRECTIVE = re.compile(r"%YAML 1\.2 *(?:\n|\r\n?)(?=--- *[\n\r])")
+# Tags with a meaning for these tools, by which both readers call a value. Most have no effect.
+_TAGS = frozenset(f"tag:yaml.org,2002:{name}" for name in "str int float bool timestamp null seq map".split())
 _MOST_LEVELS = 100
-_ANCHOR = re.compile(r"&[\w-]+[ \r\n]*", re.ASCII)
+# An anchor or a tag, and what may be after it.
+_PROPERTY = re.compile(r"(?:&[\w-]+|!![a-z]+)(?:[ \r\n]+|$)", re.ASCII)
 _AFTER_NAMES = ("", " ", "\n", "\r", ",", "]", "}")
 _VALUE = re.compile(r"[ \r\n]*:")
 
@@ -35,12 +41,15 @@ class QuickYaml:
 
     def __init__(self, source: Source) -> None:
         loader = _loader()
-        if not loader or _UNUSUAL.search(source.text):
+        directive = _DIRECTIVE.match(source.text)
+        if not loader or _UNUSUAL.search(source.text, directive.end() if directive else 0):
             raise Unclear
         self._text = source.text
         composer = _Composer(source.text)
         self.roots = composer.documents(loader)
         self.has_aliases = composer.has_aliases
+        if "\t" in source.text and not _are_clear_tabs(source.text, composer.scalars):
+            raise Unclear
 
     def refuse(self) -> None:
         raise Unclear
@@ -49,14 +58,14 @@ class QuickYaml:
         start, sign = value.start, _VALUE.match(self._text, key.end)
         # (what an alias stands for is before its key, and has an anchor)
         is_alias = start < key.start and value.anchor
-        if not is_alias and (key.anchor or not sign or sign.end() > start):
+        if not is_alias and (key.anchor or key.tag or not sign or sign.end() > start):
             raise Unclear
         before = sign.end() if sign else start
-        if value.anchor:
-            anchor = _ANCHOR.match(self._text, start)
-            if not anchor:
+        for _ in filter(None, (value.anchor, value.tag)):
+            part = _PROPERTY.match(self._text, start)
+            if not part:
                 raise Unclear
-            before, start = start + len(anchor[0].rstrip(" \r\n")), anchor.end()
+            before, start = start + len(part[0].rstrip(" \r\n")), part.end()
         if self._text[start : start + 1] in ("#", "&", "!"):
             raise Unclear
         return Token(start, before, value.in_flow)
@@ -71,6 +80,50 @@ def _loader() -> Any:
         return None
 
 
+# White space that has a TAB.
+_TABS = re.compile(r"(?<![ \t])[ \t]*\t[ \t]*")
+_BREAK = re.compile(r"[\n\r]")
+_MULTILINE = ("'", '"', "|", ">")
+_COMMENT = re.compile(r"(?:^| )#")
+
+# The start and the end of a scalar, and its style.
+_Span = Tuple[int, int, str]
+
+
+def _are_clear_tabs(text: str, scalars: List[_Span]) -> bool:
+    """Whether each TAB is in a comment, or between other characters of a line in quotes or in a block. There it is a character as others
+    are; elsewhere `ruamel.yaml` takes none, or white space has a meaning."""
+    starts = [start for start, _, _ in scalars]
+    comment_end = 0
+    for tabs in _TABS.finditer(text):
+        at = tabs.start()
+        if at < comment_end:
+            continue
+        number = bisect_right(starts, at)
+        span = scalars[number - 1] if number else (0, 0, "")
+        if at < span[1]:
+            if not _is_within_line(text, tabs, span):
+                return False
+            continue
+        before = max(span[1], comment_end)
+        before = max(before, text.rfind("\n", before, at) + 1, text.rfind("\r", before, at) + 1)
+        if not _COMMENT.search(text[before:at]):
+            return False
+        line_end = _BREAK.search(text, at)
+        comment_end = line_end.start() if line_end else len(text)
+    return True
+
+
+def _is_within_line(text: str, tabs: Match[str], span: _Span) -> bool:
+    """Whether white space of a scalar is between other characters of a line."""
+    start, end, style = span
+    if style not in _MULTILINE or tabs.start() == start or tabs.end() >= end:
+        return False
+    # (the line with the sign of a block is none of it)
+    is_text = style in "'\"" or bool(_BREAK.search(text, start, tabs.start()))
+    return is_text and text[tabs.start() - 1] not in "\n\r\\" and text[tabs.end()] not in "\n\r"
+
+
 class _Composer:
     """Makes nodes of the events of libyaml."""
 
@@ -83,6 +136,7 @@ class _Composer:
         self._open: List[Node] = []
         self._flows = 0
         self.has_aliases = False
+        self.scalars: List[_Span] = []
 
     def documents(self, loader: Any) -> List[Node]:
         steps = {
@@ -113,15 +167,21 @@ class _Composer:
     def _add_scalar(self, event: Any) -> None:
         # (`=` is a value of its own in YAML 1.1; a block that is the whole document ends elsewhere)
         is_unusual = event.value == "=" if not event.style else event.style in "|>" and not self._open
-        if event.tag is not None or is_unusual:
+        if is_unusual:
             raise Unclear
-        self._add("scalar", event.value, event.style or "", event)
+        node = self._add("scalar", event.value, event.style or "", event)
+        self.scalars.append((node.start, node.end, node.style))
 
     def _add(self, kind: str, value: Any, style: str, event: Any) -> Node:
-        start, anchor = event.start_mark, event.anchor
-        node = Node(kind, value, "", style, anchor or "", start.index, event.end_mark.index, start.column, self._flows > 0)
+        start, anchor, tag = event.start_mark, event.anchor, event.tag
+        if tag is not None and tag not in _TAGS:
+            raise Unclear
+        node = Node(kind, value, tag or "", style, anchor or "", start.index, event.end_mark.index, start.column, self._flows > 0)
         self._items[-1].append(node)
         if anchor:
+            # (there is a tag before it where it is not here)
+            if self._text[start.index] != "&":
+                raise Unclear
             self._look_after(start.index + 1 + len(anchor))
             self._anchors[anchor] = node
         return node
@@ -132,7 +192,7 @@ class _Composer:
             raise Unclear
 
     def _begin(self, event: Any) -> None:
-        if event.tag is not None or len(self._open) == _MOST_LEVELS:
+        if len(self._open) == _MOST_LEVELS:
             raise Unclear
         kind = "mapping" if type(event).__name__ == "MappingStartEvent" else "sequence"
         self._open.append(self._add(kind, [], "{" * bool(event.flow_style), event))

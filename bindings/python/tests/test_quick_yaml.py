@@ -4,6 +4,7 @@ import multiprocessing
 import os
 import random
 import re
+import time
 import unittest
 from unittest import mock
 
@@ -30,10 +31,10 @@ PIECES = (
     "a", "b c", "expr", 'up{job="x"}', " ", "  ", "\n", "\n  ", "\n    ", "\n- ", "\n  - ", ": ", ":", "- ", "? ", "[", "]",
     "{", "}", ", ", ",", '"', "'", "\\", "\\n", '\\"', "''", "#", " #c", "&x ", "*x", "|", ">", "|-", "|2", ">+", "|+\n ",
     "\r\n", "\r", "---\n", "...\n", "<<: ", "~", "null", "%", "@", "`", "!", "é", "🦀", "sum(a)", "=", "!=", "\\x41", "\\\n",
-    "\n\n", "\t", "yes", "{a: b}",
+    "\n\n", "\t", "yes", "{a: b}", "a\tb", " # c\td", "\n # c\t", "!!str ", "!!int ", "!!null", "!!seq\n", "!!map ", "!a ", "!!set ",
 )  # fmt: skip
 # What the files of the tests have that is left to the exact reader.
-LEFT = re.compile(r"!!str|\t|^\.\.\.", re.M)
+LEFT = re.compile(r"!!str &|^\.\.\.", re.M)
 # Texts that libyaml and ruamel.yaml take otherwise, or that only one of them takes.
 UNUSUAL = {
     "a TAB": "a:\tb\n",
@@ -43,7 +44,16 @@ UNUSUAL = {
     "a directive": "%YAML 1.1\n---\na: b\n",
     "the end of a document": "a: b\n...\n...\n",
     "a comment at once after the sign of a block": "a: |#c\n  b\n",
-    "a tag": "a: !!str b\n",
+    "a tag of another kind": "a: !b c\n",
+    "a tag before an anchor": "a: !!str &b c\n",
+    "a TAB before a comment": "a: b\t# c\n",
+    "a TAB in a plain scalar": "a: b\tc\n",
+    "a TAB at the begin of a line": "a: |\n  \tb\n",
+    "a TAB at the end of a line": "a: |\n  b\t\n",
+    "a TAB beside the sign of a block": "a: |\t\n  b\n",
+    "a TAB in a comment beside the sign of a block": "a: | # b\tc\n  d\n",
+    "a TAB after a backslash": '"a\\\tb"\n',
+    "a second directive": "%YAML 1.2\n--- # a\n...\n",
     "a value of YAML 1.1": "a: =\n",
     "an anchor with a colon": "a: &b: c\nd: e\n",
     "an alias with a colon": "? *b: c\n: d\n",
@@ -52,6 +62,18 @@ UNUSUAL = {
     "no YAML": "a: [b\n",
     "101 lists in lists": "- " * 101 + "a\n",
     "200,000 brackets": "[" * 200_000,
+}
+
+# Texts with what is rare, which the quick reader takes.
+TAKEN = {
+    "TABs in comments": "# a\tb\n#\t\na: b # c\td\te\n",
+    "TABs in a comment between lines": "a:\r\n  # b\t\r\n  - c\r\n",
+    "TABs in quotes": "- 'a\tb \t c'\n- \"a\tb\n   d\te\"\n",
+    "TABs in blocks": "- |\n  a\tb\n\n  c \td\n- >-\n  a\tb\n   c\td\n",
+    "a directive": "%YAML 1.2\n---\na: b\n",
+    "tags": "!!map\na: !!seq\n- !!str 1\n- !!int '1'\n- !!null b\n- !!float\n",
+    "a query with a tag": RULE + "  - expr: !!str up\n  - expr: !!str |\n      up\n      + b\n",
+    "a query with an anchor and a tag": RULE + "  - expr: &a !!str 'up'\n  - expr: *a\n",
 }
 
 
@@ -99,6 +121,14 @@ def parts(source, reader):
     return found.queries, sorted(found.faults), found.rules
 
 
+def quick_yaml_takes(text):
+    try:
+        QuickYaml(Source("a.yml", text, ""))
+    except Unclear:
+        return False
+    return True
+
+
 class Readers(unittest.TestCase):
     def compare(self, text):
         """Whether the quick reader takes a text; it then is read as the exact one reads it."""
@@ -127,6 +157,17 @@ class Readers(unittest.TestCase):
     def test_unusual(self):
         for name, text in UNUSUAL.items():
             self.assertFalse(self.compare(text), name)
+
+    def test_rare(self):
+        for name, text in TAKEN.items():
+            self.assertTrue(self.compare(text), name)
+
+    def test_many_tabs(self):
+        """Lines and comments with many TABs cost no more than others."""
+        for text in ("#" + "a\t" * 200_000, "#\t\n" * 200_000, "#\t\r" * 200_000, "a: '" + "a\t" * 200_000 + "'", "a" + "\t " * 200_000):
+            begin = time.process_time()
+            self.assertIn(quick_yaml_takes(text), (True, False))
+            self.assertLess(time.process_time() - begin, 5, text[:10])
 
     def test_at_random(self):
         """Texts of pieces of YAML, alone and as the value of a rule."""
