@@ -109,6 +109,23 @@ def printed_texts(query: str) -> Dict[str, str]:
     return {text: name for name, text in reversed(made.items())}
 
 
+def rejections_of(query: str) -> Tuple[bool, bool]:
+    """Whether the library rejects a query, and its layout, for a Prometheus."""
+    promql.set_target("prometheus-3")
+    try:
+        return is_rejected(promql.check, query), is_rejected(promql.format_query, query)
+    finally:
+        promql.set_target("rules")
+
+
+def is_rejected(call: Callable[[str], object], query: str) -> bool:
+    try:
+        call(query)
+    except promql.ReadOtherwiseError:
+        return True
+    return False
+
+
 class Comparison:
     """Compares what queries give as they are written and as they are printed, and counts by class."""
 
@@ -129,13 +146,20 @@ class Comparison:
         self.counts["with a result"] += any(it[1] != "[]" for it in written)
         found = classes_of(query)
         self.checks.check(classes_by_tree(query) == TREE_CLASSES & set(found), f"by tokens and tree: {query!r} {found}")
+        # (the library finds every query of a class, and some others)
+        rejects, rejects_layout = rejections_of(query)
+        self.checks.check(rejects or not found, f"let through: {query!r} {found}")
+        self.checks.check(rejects or not rejects_layout, f"its layout is rejected alone: {query!r}")
+        self.counts["rejected and of a class"] += rejects and bool(found)
+        self.counts["rejected and of no class"] += rejects and not found
         self.of_class.update(found)
         is_other = False
         # (a query with several results, as `topk` has of equal values, differs from none)
         for text, name in printed_texts(query).items():
             difference = self._server.differs(query, text)
             is_other = is_other or difference is not None
-            self.checks.check(difference is None or bool(found), f"{name}: {query!r}\n    {text!r}\n    {str(difference)[:600]}")
+            lets = not rejects_layout if name.startswith("formatted") else not rejects
+            self.checks.check(difference is None or not lets, f"{name}: {query!r}\n    {text!r}\n    {str(difference)[:600]}")
         kept = promql.format_query(query, width=40, keep_spelling=True)
         self.checks.check(self._server.differs(query, kept) is None, f"in its spelling: {query!r}\n    {kept!r}")
         self.checks.check(is_other or not found or not is_exact, f"not other: {query!r} {found}")
