@@ -106,9 +106,10 @@ def opening(tokens: Tokens, at: int) -> int:
 def has_rounded_moment(tokens: Tokens) -> bool:
     """A time after `@` is another millisecond as a product of doubles than as the exact decimal, rounded."""
     for at in (at for at, token in enumerate(tokens) if token.text == "@"):
-        number = tokens[at + 1 + (tokens[at + 1].text in ("+", "-"))]
+        sign = tokens[at + 1].text if tokens[at + 1].text in ("+", "-") else ""
+        number = tokens[at + 1 + len(sign)]
         # (else it is `start()` or `end()`)
-        if number.kind == "number" and milliseconds(number.text) != milliseconds(printed_moment(number.text)):
+        if number.kind == "number" and milliseconds(sign + number.text) != milliseconds(printed_moment(sign + number.text)):
             return True
     return False
 
@@ -117,11 +118,21 @@ def printed_moment(number: str) -> str:
     return promql.canonical(f"x @ {number}").split(" @ ")[1]
 
 
-def milliseconds(number: str) -> int:
+def milliseconds(number: str) -> float:
     """As Prometheus has them: the product of doubles, to the nearest whole number, a half away from zero."""
     product = float(promql.canonical(number)) * 1000
-    whole = math.floor(product)
-    return whole + (product - whole >= 0.5)
+    size = math.floor(abs(product))
+    return math.copysign(size + (abs(product) - size >= 0.5), product)
+
+
+def has_metric_offset(tokens: Tokens) -> bool:
+    """A metric called `offset` is before operators and a number, which the formatter takes for a time."""
+    for at, token in enumerate(tokens):
+        if token.kind == "keyword" and token.lower == "offset" and not ends_operand(tokens, at - 1):
+            after = next(it for it in range(at + 1, len(tokens) + 1) if it == len(tokens) or tokens[it].kind != "operator")
+            if after > at + 1 and after < len(tokens) and tokens[after].kind in ("number", "duration"):
+                return True
+    return False
 
 
 # ---- selectors that are arguments

@@ -160,6 +160,9 @@ ALIKE = r"""
     last_over_time(vector(time())[10ms:1ms] @ 4.0004)
     last_over_time(vector(time())[10ms:1ms] @ 4.001)
     last_over_time(vector(time())[10ms:1ms] @ -0)
+    foo @ -9223372036854775.808
+    foo @ 9223372036854775.807
+    foo @ start() offset -5m
     --0
     -(0)
     -0 ^ 2

@@ -18,7 +18,7 @@ import sys
 import tempfile
 import urllib.parse
 from fractions import Fraction
-from typing import Any, Callable, Counter, Dict, Iterator, List, NamedTuple, Optional, Sequence, Tuple
+from typing import Any, Callable, Counter, DefaultDict, Dict, Iterator, List, NamedTuple, Optional, Sequence, Tuple
 
 from changed import LONGEST_CHANGED, queries_of
 import compare
@@ -414,7 +414,7 @@ class Comparison:
         self._asked = asked
         self.checks = Checks(60)
         self.counts: Counter[str] = collections.Counter()
-        self.kinds: Dict[str, List[str]] = collections.defaultdict(list)
+        self.kinds: DefaultDict[str, List[str]] = collections.defaultdict(list)
 
     def look_at(self, query: str) -> None:
         here, there = rejected(query), self._asked.error(query)
@@ -445,8 +445,8 @@ class Comparison:
     def print_kinds(self) -> None:
         for side, names in (("here", list(HERE)), ("there", list(THERE))):
             for name in names:
-                queries = self.kinds[name]
-                print(f"{side}\t{name}\t{len(queries)}\t{min(queries, key=len, default='')!r:.100}")
+                shortest = min(self.kinds[name], key=len, default="")
+                print(f"{side}\t{name}\t{len(self.kinds[name])}\t{shortest!r:.100}")
 
 
 def main() -> int:
