@@ -591,8 +591,8 @@ test_prometheus() {
     add 'queries before a Prometheus' in_python "$here/python" "$root/bench/meaning/compare.py" --rows 500 --random 500
     add 'the linter before a Prometheus' in_python "$here/python" "$root/bench/meaning/lint.py" 500
     add 'places of errors before a Prometheus' in_python "$here/python" "$root/bench/places/prometheus.py"
-    add 'classes of meanings before a Prometheus' in_python "$here/python" "$root/bench/targets/meanings.py" --made 500 --changed 100
-    add 'kinds of verdicts before a Prometheus' in_python "$here/python" "$root/bench/targets/verdicts.py" --count 17000
+    add 'classes of meanings before a Prometheus' in_python "$here/python" "$root/bench/targets/meanings.py" --made 300 --changed 200
+    add 'kinds of verdicts before a Prometheus' in_python "$here/python" "$root/bench/targets/verdicts.py" --count 5000
 }
 
 # The servers and the proxies are in the group of processes that `limited` ends.

@@ -100,11 +100,14 @@ class Changer:
 
 
 def queries_of(count: int, seed: int, more: Sequence[str] = (), file: Optional[str] = None) -> Iterator[str]:
-    """The listed queries and some more, and as many changed ones as are missing to the count, each once."""
+    """So many queries, each once: some more, the listed ones, or half as many of them as the count where they are more than that, and
+    changed ones."""
     rng = random.Random(seed)
     listed = [query for query in dict.fromkeys([*more, *listed_queries(file)]) if len(query) <= LONGEST]
-    yield from listed[:count]
-    changer, seen = Changer(rng, listed), set(listed)
+    changer = Changer(rng, listed)
+    shown = listed if 2 * len(listed) <= count else [*more, *rng.sample(listed, max(0, count // 2 - len(more)))]
+    seen = set(shown)
+    yield from dict.fromkeys(shown)
     while len(seen) < count:
         query = changer.query()
         if query not in seen:

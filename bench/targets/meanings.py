@@ -189,7 +189,7 @@ def made_queries(count: int, make: Callable[[], str]) -> Iterator[str]:
 
 def changed_queries(count: int, seed: int) -> Iterator[str]:
     """So many of the queries of this repository, and changed ones, that the library accepts, and that have a tree in JSON."""
-    found = (query for query in queries_of(100 * count, seed) if is_accepted(query))
+    found = (query for query in queries_of(10 * count, seed) if is_accepted(query))
     return itertools.islice(found, count)
 
 
