@@ -4,6 +4,7 @@ from __future__ import annotations
 
 import argparse
 import errno
+import gc
 import os
 import signal
 import sys
@@ -20,6 +21,8 @@ COMMANDS = (
     page,
     completion_command,
 )
+# After how many new objects cycles are looked for.
+_NEW_OBJECTS = 100_000
 
 
 def main(arguments: Optional[List[str]] = None) -> int:
@@ -41,6 +44,8 @@ def program() -> int:
     cannot be written."""
     if sys.argv[1:2] in (["serve"], ["lsp"]):
         return main()
+    # (a file has many objects and hardly a cycle of them, so looking for cycles seldom takes a fifth less time)
+    gc.set_threshold(_NEW_OBJECTS)
     signal.signal(signal.SIGPIPE, signal.SIG_DFL)
     if signal.getsignal(signal.SIGINT) is signal.default_int_handler:
         signal.signal(signal.SIGINT, signal.SIG_DFL)

@@ -16,7 +16,7 @@ import promql
 
 from .checked_queries import QueryChecker
 from .queries import Edit, PlacedText, edited
-from .token_texts import MATCHER_SIGNS, Token, code_of, pattern_operators
+from .token_texts import MATCHER_SIGNS, Token, pattern_operators
 
 _NAMES = r"[A-Za-z_]\w*"
 # `$x`, `${x}`, `${x:format}`, `${x.field}`, `[[x]]` and `[[x:format]]`.
@@ -228,43 +228,64 @@ def places_of(query: str) -> Tuple[Place, ...]:
 
 
 def _places(query: str) -> Iterator[Place]:
-    tokens = _tokens(query)
+    variables = [found.span() for found in VARIABLE.finditer(query)]
+    tokens = _spans(query)
     opened: List[str] = []
-    for number, token in enumerate(tokens):
-        if token.text in ("(", "[", "{"):
-            opened.append(token.text)
-        elif token.text in (")", "]", "}") and opened:
+    next_one = 0
+    for number, (start, end) in enumerate(tokens):
+        if end - start == 1 and query[start] in "([{":
+            opened.append(query[start])
+        elif end - start == 1 and query[start] in ")]}" and opened:
             opened.pop()
-        elif not VARIABLE.search(token.text):
+        # (comments have variables, too)
+        while next_one < len(variables) and variables[next_one][0] < start:
+            next_one += 1
+        if next_one == len(variables):
+            return
+        if variables[next_one][0] >= end:
             continue
-        elif token.is_quoted and not token.is_open:
-            yield Place(token.start, token.end, _TEXT, not _ESCAPED.search(token.text))
+        token = Token("", query[start:end], start, end)
+        if token.is_quoted and not token.is_open:
+            yield Place(start, end, _TEXT, not _ESCAPED.search(token.text))
         else:
-            yield from _in_run(query, tokens, number, opened[-1] if opened else "")
+            yield from _in_run(query, token, tokens, number, opened[-1] if opened else "")
 
 
-def _tokens(query: str) -> List[Token]:
+def _spans(query: str) -> List[Tuple[int, int]]:
     """The tokens of a query, which are read with words in the place of its variables. Of words and numbers those that touch are one."""
-    found: List[Token] = []
-    for token in code_of(VARIABLE.sub(lambda variable: "z" * len(variable[0]), query)):
-        start = token.start
-        if found and found[-1].end == start and _is_in_run(token) and _is_in_run(found[-1]):
-            start = found.pop().start
-        found.append(token._replace(start=start))
-    return [token._replace(text=query[token.start : token.end]) for token in found]
+    read = VARIABLE.sub(lambda variable: "z" * len(variable[0]), query)
+    found: List[Tuple[int, int]] = []
+    run_end = -1
+    for kind, start, end in _tokens(read):
+        if kind == "comment":
+            continue
+        is_in_run = _is_in_run(read, start, end)
+        if is_in_run and start == run_end:
+            start = found.pop()[0]
+        run_end = end if is_in_run else -1
+        found.append((start, end))
+    return found
 
 
-def _is_in_run(token: Token) -> bool:
+def _tokens(query: str) -> Sequence[promql.Token]:
+    try:
+        return promql.tokens(query)
+    except ValueError:
+        return ()
+
+
+def _is_in_run(query: str, start: int, end: int) -> bool:
     """Whether a token is a word, a number, or an error that may be a part of one."""
-    return token.text.isascii() and not token.is_quoted and (token.text[-1].isalnum() or token.text[-1] in "_.")
+    last = query[end - 1]
+    return (last.isalnum() or last in "_.") and query[start] not in "\"'`" and query[start:end].isascii()
 
 
-def _in_run(query: str, tokens: Sequence[Token], number: int, opened: str) -> Iterator[Place]:
+def _in_run(query: str, token: Token, tokens: Sequence[Tuple[int, int]], number: int, opened: str) -> Iterator[Place]:
     """The variables of a token, or the token as a whole where it is none but with a value, as `[${x}s]`."""
-    token = tokens[number]
-    before, after = (tokens[at].lower if 0 <= at < len(tokens) else "" for at in (number - 1, number + 1))
-    if before in ("-", "+") and number > 1 and tokens[number - 2].lower in ("offset", "@"):
-        before = tokens[number - 2].lower
+    around = [tokens[at] if 0 <= at < len(tokens) else (0, 0) for at in (number - 2, number - 1, number + 1)]
+    far, before, after = (query[start:end].lower() for start, end in around)
+    if before in ("-", "+") and number > 1 and far in ("offset", "@"):
+        before = far
     found = None if token.is_open else _as_token(query, token, before, after, opened)
     if found:
         yield Place(token.start, token.end, *found)

@@ -7,7 +7,7 @@ lists.
 from __future__ import annotations
 
 import re
-from typing import Dict, FrozenSet, Iterator, List, Match, Optional, Set, Tuple
+from typing import Dict, FrozenSet, Iterator, List, Match, Optional, Sequence, Set, Tuple
 
 from .files import Fault
 from .go_templates import TemplateError, check_template
@@ -170,9 +170,9 @@ class RuleChecks:
                 self._look_at_label(key, text, name, is_template)
         return bool(entries)
 
-    def _labels(self, owner: Node, name: str) -> List[Tuple[Node, Node]]:
+    def _labels(self, owner: Node, name: str) -> Sequence[Tuple[Node, Node]]:
         value = self._mappings.value(owner, name)
-        return list(self._mappings.entries(value)) if value and value.kind == "mapping" else []
+        return self._mappings.entries(value) if value and value.kind == "mapping" else []
 
     def _look_at_label(self, key: Node, value: Node, name: str, is_template: bool) -> None:
         one = "an annotation" if name == "annotations" else "a label"

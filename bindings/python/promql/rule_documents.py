@@ -43,7 +43,11 @@ _STAGES = "json logfmt regexp pattern unpack unwrap line_format label_format dec
 
 def is_logql(query: str) -> bool:
     """Whether a query is surely of Loki, and not of Prometheus."""
-    tokens = [token.text for token in code_of(query)] if "{" in query else []
+    rest = query.partition("}")[2]
+    if "{" not in query or "|" not in rest and "!" not in rest:
+        # (no filter and no stage is after braces)
+        return False
+    tokens = [token.text for token in code_of(query)]
     return any(text == "}" and _is_pipeline(tokens[number : number + 3]) for number, text in enumerate(tokens, 1))
 
 

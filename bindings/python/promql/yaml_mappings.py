@@ -2,7 +2,7 @@
 
 from __future__ import annotations
 
-from typing import Dict, Iterator, List, NamedTuple, Optional, Set, Tuple
+from typing import Dict, Iterator, List, NamedTuple, Optional, Sequence, Set, Tuple
 
 from .files import FileError
 from .yaml_nodes import Node
@@ -36,9 +36,10 @@ class Mappings:
         """The node of a key and that of its value, which may come from a mapping that is merged into this one."""
         if mapping.kind != "mapping":
             return None
-        own = self._own(mapping)
-        if key in own.entries or not own.merges:
-            return own.entries.get(key)
+        own = self._read.get(id(mapping)) or self._own(mapping)
+        found = own.entries.get(key)
+        if found or not own.merges:
+            return found
         place = (id(mapping), key)
         if place in self._sought:
             raise FileError(f"{self._name}: a mapping is merged into itself")
@@ -52,20 +53,30 @@ class Mappings:
         entry = self.entry(mapping, key)
         return entry[1] if entry else None
 
-    def entries(self, mapping: Node) -> Iterator[Entry]:
+    def entries(self, mapping: Node) -> Sequence[Entry]:
         """All entries, the own ones before those that are merged; a key may be there again."""
+        if mapping.kind == "mapping" and not self._own(mapping).merges:
+            self._walk(mapping)
+            found: List[Entry] = mapping.value
+            return found
+        return list(self._with_merged(mapping))
+
+    def _with_merged(self, mapping: Node) -> Iterator[Entry]:
         todo, seen = [mapping], {id(mapping)}
         while todo:
             part = todo.pop()
-            for key, value in part.value if part.kind == "mapping" else ():
-                self._walked += 1
-                if self._walked > _MOST_ENTRIES:
-                    raise FileError(f"{self._name}: its merge keys make more than {_MOST_ENTRIES:,} entries of it")
-                if not key.is_merge():
-                    yield key, value
+            if part.kind == "mapping":
+                self._walk(part)
+                yield from (entry for entry in part.value if not entry[0].is_merge())
             parts = [other for other in self.merged(part) if id(other) not in seen]
             seen.update(map(id, parts))
             todo += reversed(parts)
+
+    def _walk(self, mapping: Node) -> None:
+        """Counts the entries of a mapping, of which a file has so many at most, again for each time that they are asked for."""
+        self._walked += len(mapping.value)
+        if self._walked > _MOST_ENTRIES:
+            raise FileError(f"{self._name}: its merge keys make more than {_MOST_ENTRIES:,} entries of it")
 
     def merged(self, mapping: Node) -> Iterator[Node]:
         """What is merged into a mapping."""
