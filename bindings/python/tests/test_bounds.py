@@ -17,6 +17,7 @@ from promql.files import Fault, Source
 from promql.line_index import LineIndex
 from promql.lint import fix, fixes, lint
 from promql.lint.file_findings import MOST_FINDINGS
+from promql.rule_files import RuleFile
 
 try:
     import ruamel.yaml  # noqa: F401
@@ -134,6 +135,35 @@ class Patterns(unittest.TestCase):
         expr = "(a + $x $y $z) + " + "+".join(["b"] * 200)
         board = json.dumps({"targets": [{"expr": f"{expr} + {number}"} for number in range(400)]})
         self.assertLess(seconds_of(Dashboard, Source("a.json", board, "")), 3 * SECONDS)
+
+
+class Calls(unittest.TestCase):
+    """How often the library is asked: no more than is printed."""
+
+    def count(self, name, function, *arguments):
+        with mock.patch.object(promql, name, wraps=getattr(promql, name)) as call:
+            function(*arguments)
+        return call.call_count
+
+    def test_places(self):
+        """Places are asked for where there is a finding alone."""
+        for name in ("places", "parts", "tokens"):
+            self.assertEqual(self.count(name, lint, 'sum by (job) (rate(up_total{job="a",b=~"c.*d"}[5m])) > 0.5'), 0, name)
+        self.assertEqual(self.count("places", lint, 'up{a=~"b",c=~"d"}'), 1)
+
+    def test_logql(self):
+        """Only what may be LogQL is split into tokens."""
+        text = RULE + "".join(f"  - {{record: a, expr: 'up{{a=\"{number}\"}} + b'}}\n" for number in range(9))
+        self.assertEqual(self.count("tokens", RuleFile, Source("a.yml", text, "")), 0)
+
+    def test_variables(self):
+        """A query with variables is split into tokens once, however many readings are tried."""
+        board = json.dumps({"targets": [{"expr": "(a + $x $y $z) + once_alone"}]})
+        checker = QueryChecker()
+        with mock.patch.object(checker, "error", wraps=checker.error) as error:
+            tokens = self.count("tokens", Dashboard, Source("a.json", board, ""), None, checker)
+        self.assertGreater(error.call_count, 20)
+        self.assertEqual(tokens, 1)
 
 
 class Aliases(unittest.TestCase):

@@ -331,7 +331,8 @@ class ManyQueries(unittest.TestCase):
                 self.assertFalse(braces and query[braces.start] + query[braces.end - 1] != "{}", query)
             for node in subject.selectors:
                 for matcher in subject.matchers(node):
-                    self.assertEqual(matcher.tree["type"], query[slice(*matcher.place.operator)] if matcher.place else "=", query)
+                    place = subject.matcher_place(node, matcher)
+                    self.assertEqual(matcher.tree["type"], query[slice(*place.operator)] if place else "=", query)
 
     def test_findings_and_fixes(self):
         context = RuleContext(alert="A", interval=60_000, template_labels=frozenset(("a", "job")))

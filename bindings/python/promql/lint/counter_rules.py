@@ -91,20 +91,26 @@ def irate_in_alert(subject: Subject) -> Iterator[Remark]:
 def short_range(subject: Subject) -> Iterator[Remark]:
     """A range in which there are too few samples, or between which samples are never looked at."""
     for node in subject.of_type("matrixSelector"):
-        length, text = node["range"], duration_text(node["range"])
-        span = subject.place(node).range or subject.span(node)
-        if not subject.is_written(subject.text[span.start : span.end]) or _is_in_subquery(subject, node):
+        message = _why_short(subject, node)
+        if not message or _is_in_subquery(subject, node):
             continue
-        recorded = subject.context.recorded.get(subject.metric(node) or "")
-        interval = subject.context.interval
-        call = subject.parent(node)
-        is_rate = call and call["type"] == "call" and call["func"]["name"] in (*_RATES, *_OF_GAUGES)
-        if recorded and is_rate and length < 2 * recorded:
-            message = f"{text} may have one sample alone, since a rule records the metric every {duration_text(recorded)}"
+        span = subject.place(node).range or subject.span(node)
+        if subject.is_written(subject.text[span.start : span.end]):
             yield Remark(span, message)
-        elif interval and length < interval:
-            message = f"the group is evaluated every {duration_text(interval)}, and so what is not in these {text} is never seen"
-            yield Remark(span, message)
+
+
+def _why_short(subject: Subject, node: Tree) -> str:
+    """Why the range of a selector is short, or nothing."""
+    length, text = node["range"], duration_text(node["range"])
+    recorded = subject.context.recorded.get(subject.metric(node) or "")
+    interval = subject.context.interval
+    call = subject.parent(node)
+    is_rate = call and call["type"] == "call" and call["func"]["name"] in (*_RATES, *_OF_GAUGES)
+    if recorded and is_rate and length < 2 * recorded:
+        return f"{text} may have one sample alone, since a rule records the metric every {duration_text(recorded)}"
+    if interval and length < interval:
+        return f"the group is evaluated every {duration_text(interval)}, and so what is not in these {text} is never seen"
+    return ""
 
 
 def _is_in_subquery(subject: Subject, node: Tree) -> bool:

@@ -27,8 +27,9 @@ def lost_label(subject: Subject) -> Iterator[Remark]:
         if node["without"] or not node["grouping"]:
             continue
         below = subject.labels.of(node["expr"])
-        for label, span in zip(node["grouping"], subject.place(node).labels):
-            if subject.is_written(label) and not below.may_have(label):
+        lost = {label for label in node["grouping"] if subject.is_written(label) and not below.may_have(label)}
+        for label, span in zip(node["grouping"], subject.place(node).labels) if lost else ():
+            if label in lost:
                 yield Remark(span, f"no series has the label `{label}` here: what is below does not keep it")
 
 
@@ -36,15 +37,20 @@ def lost_label(subject: Subject) -> Iterator[Remark]:
 def unmatched_label(subject: Subject) -> Iterator[Remark]:
     """A label after `on` that one side cannot have, or one after `ignoring` that neither side can have."""
     for node, left, right in _matched(subject):
-        for label, span in zip(matching_of(node)["labels"], subject.place(node).labels):
-            lacking = [side for side, it in (("left", left), ("right", right)) if not it.may_have(label)]
-            if not subject.is_written(label):
-                continue
-            if matching_of(node)["on"] and lacking:
-                sides = f"the {lacking[0]} side has" if len(lacking) == 1 else "the sides have"
-                yield Remark(span, f"`on` has the label `{label}`, which {sides} not")
-            elif not matching_of(node)["on"] and len(lacking) == 2:
-                yield Remark(span, f"`ignoring` has the label `{label}`, which no side has")
+        labels, is_on = matching_of(node)["labels"], matching_of(node)["on"]
+        messages = {label: _why_unmatched(label, is_on, left, right) for label in labels if subject.is_written(label)}
+        for label, span in zip(labels, subject.place(node).labels) if any(messages.values()) else ():
+            if messages.get(label):
+                yield Remark(span, messages[label])
+
+
+def _why_unmatched(label: str, is_on: bool, left: Labels, right: Labels) -> str:
+    """What is wrong with a label after `on` or `ignoring`, or nothing."""
+    lacking = [side for side, it in (("left", left), ("right", right)) if not it.may_have(label)]
+    if is_on and lacking:
+        sides = f"the {lacking[0]} side has" if len(lacking) == 1 else "the sides have"
+        return f"`on` has the label `{label}`, which {sides} not"
+    return f"`ignoring` has the label `{label}`, which no side has" if not is_on and len(lacking) == 2 else ""
 
 
 @rule("P403", "grouped-label", Severity.WARNING)
@@ -56,8 +62,9 @@ def grouped_label(subject: Subject) -> Iterator[Remark]:
             continue
         ((name, labels),) = card.items()
         one, word = (right, "group_left") if name == "many-to-one" else (left, "group_right")
-        for label, span in zip(labels, subject.place(node).group):
-            if subject.is_written(label) and not one.may_have(label):
+        lost = {label for label in labels if subject.is_written(label) and not one.may_have(label)}
+        for label, span in zip(labels, subject.place(node).group) if lost else ():
+            if label in lost:
                 side = "right" if word == "group_left" else "left"
                 yield Remark(span, f"`{word}` takes the label `{label}` from the {side} side, which has none")
 

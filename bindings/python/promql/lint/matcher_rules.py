@@ -25,17 +25,13 @@ def _groups(subject: Subject) -> Iterator[_Group]:
             yield node, [it for it in group if subject.is_written(it.value)]
 
 
-def _matchers(subject: Subject) -> Iterator[Tuple[Tree, SeenMatcher]]:
-    for node in subject.selectors:
-        yield from ((node, it) for it in subject.matchers(node) if subject.is_written(it.value))
-
-
 def _with_pattern(subject: Subject) -> Iterator[Tuple[Tree, SeenMatcher]]:
-    return ((node, it) for node, it in _matchers(subject) if it.operator in _OF_PATTERNS)
+    return ((node, it) for node, it in subject.written_matchers if it.operator in _OF_PATTERNS)
 
 
 def _span(subject: Subject, node: Tree, matcher: SeenMatcher) -> Span:
-    return matcher.place.whole if matcher.place else subject.span(node)
+    place = subject.matcher_place(node, matcher)
+    return place.whole if place else subject.span(node)
 
 
 def _shown(matcher: SeenMatcher) -> str:
@@ -53,9 +49,10 @@ def _is_call_that_gives_labels(node: Tree) -> bool:
 
 def _written_anew(subject: Subject, node: Tree, matcher: SeenMatcher, operator: str, value: str) -> Optional[Fix]:
     """A fix that writes a matcher with another operator and another value."""
-    if not matcher.place or _gives_labels(subject, node):
+    place = subject.matcher_place(node, matcher)
+    if not place or _gives_labels(subject, node):
         return None
-    place, edits = matcher.place, []
+    edits: List[TextEdit] = []
     if operator != matcher.operator:
         edits.append(TextEdit(*place.operator, operator))
     if value != matcher.value:
@@ -65,11 +62,10 @@ def _written_anew(subject: Subject, node: Tree, matcher: SeenMatcher, operator: 
 
 def _left_out(subject: Subject, node: Tree, matcher: SeenMatcher) -> Optional[Fix]:
     """A fix that leaves out a matcher of braces without `or`, with a comma beside it."""
-    place = subject.place(node)
-    if not matcher.place or not place.braces or "or_matchers" in node or _gives_labels(subject, node):
+    place, braces = subject.matcher_place(node, matcher), subject.place(node).braces
+    if not place or not braces or "or_matchers" in node or _gives_labels(subject, node):
         return None
-    start, end = matcher.place.whole
-    text, braces = subject.text, place.braces
+    (start, end), text = place.whole, subject.text
     if comma := _COMMA_AFTER.match(text, end, braces.end):
         end = comma.end()
     elif (before := _before_blanks(text, start, braces.start)) > braces.start and text[before - 1] == ",":

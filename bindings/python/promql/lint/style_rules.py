@@ -62,8 +62,8 @@ def _why_needless(subject: Subject, node: Tree) -> Optional[str]:
 @rule("P602", "empty-braces", Severity.INFO)
 def empty_braces(subject: Subject) -> Iterator[Remark]:
     """Braces without a matcher."""
-    for node in subject.selectors:
-        braces = subject.place(node).braces
-        if node["name"] is not None and not node["matchers"] and "or_matchers" not in node and braces:
-            if subject.text[braces.start + 1 : braces.end - 1].strip() == "":
+    for node in subject.selectors if "{" in subject.text else ():
+        if node["name"] is not None and not node["matchers"] and "or_matchers" not in node:
+            braces = subject.place(node).braces
+            if braces and subject.text[braces.start + 1 : braces.end - 1].strip() == "":
                 yield Remark(braces, "needless braces: there is no matcher in them", Fix((TextEdit(*braces, ""),), ()))

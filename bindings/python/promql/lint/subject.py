@@ -47,13 +47,12 @@ def always(text: str) -> bool:
 
 
 class SeenMatcher(NamedTuple):
-    """A matcher of a selector, with its place, which a name in quotes has not."""
+    """A matcher of a selector."""
 
     name: str
     operator: str
     value: str
     tree: Tree
-    place: Optional[MatcherPlace]
 
 
 class Subject:
@@ -72,6 +71,8 @@ class Subject:
         # Whether a text of the query is as somebody wrote it, and not what stands there for a variable.
         self.is_written = is_written
         self._groups: Dict[int, List[List[SeenMatcher]]] = {}
+        # Those of the matchers of a selector, by both nodes.
+        self._matcher_places: Dict[int, Dict[int, Optional[MatcherPlace]]] = {}
         # What is below the nodes of a kind.
         self._below: Dict[Callable[[Tree], bool], Set[int]] = {}
 
@@ -125,6 +126,8 @@ class Subject:
 
     def is_as_written(self, node: Tree) -> bool:
         """Whether the text of a node is as somebody wrote it."""
+        if self.is_written is always:
+            return True
         span = self.span(node)
         return self.is_written(self.text[span.start : span.end])
 
@@ -174,10 +177,20 @@ class Subject:
 
     def _read_groups(self, node: Tree) -> List[List[SeenMatcher]]:
         groups = [[*node["matchers"], *group] for group in node.get("or_matchers", [[]])]
-        listed = [*node["matchers"], *(it for group in node.get("or_matchers", ()) for it in group)]
-        places = zip(listed, self.place(node).matchers)
-        seen = {id(it): SeenMatcher(it["name"], it["type"], it["value"], it, place) for it, place in places}
+        seen = {id(it): SeenMatcher(it["name"], it["type"], it["value"], it) for it in _listed(node)}
         return [[seen[id(it)] for it in group] for group in groups]
+
+    def matcher_place(self, node: Tree, matcher: SeenMatcher) -> Optional[MatcherPlace]:
+        """Where a matcher of a selector is; a name in quotes has no place. (Few queries have a finding for which that is asked.)"""
+        if id(node) not in self._matcher_places:
+            places = zip(_listed(node), self.place(node).matchers)
+            self._matcher_places[id(node)] = {id(it): place for it, place in places}
+        return self._matcher_places[id(node)][id(matcher.tree)]
+
+    @cached_property
+    def written_matchers(self) -> List[Tuple[Tree, SeenMatcher]]:
+        """The matchers of all selectors, with these, but for those whose value is not as it was written."""
+        return [(node, it) for node in self.selectors for it in self.matchers(node) if self.is_written(it.value)]
 
     def matchers(self, node: Tree) -> List[SeenMatcher]:
         """Each matcher of a selector, once."""
@@ -190,3 +203,8 @@ class Subject:
             names = [it["value"] for it in node["matchers"] if it["name"] == NAME and it["type"] == "="]
             name = names[0] if names else None
         return name if name and self.is_written(name) else None
+
+
+def _listed(node: Tree) -> List[Tree]:
+    """The matchers of a selector in the order of the text."""
+    return [*node["matchers"], *(it for group in node.get("or_matchers", ()) for it in group)]
