@@ -63,9 +63,13 @@ class _Token(NamedTuple):
 _END_OF_TEXT = _Token("end of text", "")
 
 
+# What most templates have alone.
+_VALUE = re.compile(r"(?<!\{)\{\{ ?\$(?:labels\.[A-Za-z_]\w*|value) ?\}\}", re.ASCII)
+
+
 def check_template(text: str) -> None:
     """Returns where Prometheus would take the text as the template of an alert, and else raises TemplateError."""
-    fault = _fault(text) if "{{" in text else ""
+    fault = _fault(text) if "{{" in text and "{{" in _VALUE.sub(" ", text) else ""
     if fault:
         raise TemplateError(fault)
 

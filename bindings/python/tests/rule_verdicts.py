@@ -323,9 +323,10 @@ TEMPLATES = (
     "{{ . | first.a }}", "{{ 1 | (humanize) }}", "{{ \"%\" | printf }}", "{{ .a . }}", "{{ $value.x | humanize }}",
     "{{-\n1}}", "{{/*a*/ -}}", "{{ if 1 | humanize }}{{ end }}", "{{ if 1 2 }}{{ end }}", "{{ len $labels | printf \"%d\" }}",
     "{{ range $i, $x := . }}{{ $i }}{{ else }}{{ $i }}{{ end }}", "{{ range $i = . }}{{ end }}",
-    "{{ range $value, $labels = . }}{{ end }}",
+    "{{ range $value, $labels = . }}{{ end }}", "{ {{$value}}{{ $labels.a }}{", "{{/* {{ $value }} */}}", "{{ \"{{ $value }}\" }}",
 )
 NO_TEMPLATES = (
+    "{{{ $value }}", "{{ if {{ $value }} }}{{ end }}", "{{ {{ $labels.a }} }}", "{{ $value }}{{",
     "{{ 1_ }}", "{{ 0x_ }}", "{{ .a² }}", "{{ 1__0 }}", "{{ 1._5 }}", "{{ $x² := 1 }}",
     "{{/* a */ b */}}", "{{- /* a */ }}", "{{/*/}}", "{{/* a */}", "{{/**/ -}} {{/*",
     "{{", "{{}}", "{{ }}", "{{ $foo }}", "{{ | humanize }}", "{{ if }}", "{{ if $value }}x", "{{ end }}", "{{ else }}",
