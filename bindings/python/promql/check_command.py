@@ -4,12 +4,12 @@ from __future__ import annotations
 
 import argparse
 from functools import partial
-from operator import itemgetter
-from typing import Any, List, Tuple
+from typing import Any, Tuple
 
-from .documents import Document, Status, read_document, skipped_notes
-from .files import Fault, FileError, counted
-from .jobs import Report, add_arguments, as_bytes, skipped_file, work_on
+from .documents import Skipped, Status, read_document
+from .files import FileError, counted
+from .jobs import Report, add_arguments, as_bytes, failed, skipped_file, work_on
+from .messages import ERROR, REJECTED, RULE, WARNING, in_order, left_out, placed, skipped_queries
 from .targets import Target, targets_of
 from .visible import visible
 
@@ -28,7 +28,7 @@ def add_parser(subparsers: Any) -> None:
     parser.add_argument(
         "--queries", action="store_true", help="check queries alone, and not names, labels, durations and templates"
     )
-    parser.set_defaults(run=_run)
+    parser.set_defaults(run=_run, command="check")
 
 
 def _variable(text: str) -> Tuple[str, str]:
@@ -40,29 +40,26 @@ def _variable(text: str) -> Tuple[str, str]:
 
 def _run(arguments: argparse.Namespace) -> int:
     targets = targets_of(arguments.files, arguments.dashboard)
-    return work_on(targets, partial(_check_file, arguments), arguments.jobs, color=arguments.color)
+    return work_on(targets, partial(_check_file, arguments), arguments)
 
 
 def _check_file(arguments: argparse.Namespace, target: Target) -> Report:
     try:
         document = read_document(target, arguments.dashboard, dict(arguments.variable), arguments.max_file_patterns)
-        if not document:
-            return skipped_file(target, arguments.verbose)
-        others, notes = ([], []) if arguments.queries else document.checks()
+        if isinstance(document, Skipped):
+            return skipped_file(target, document, arguments.verbose)
+        others, warnings = ([], []) if arguments.queries else document.checks()
     except FileError as error:
-        return Report(Status.FAILED, b"", [str(error)])
-    notes += skipped_notes(document, arguments.verbose)
-    skipped = [query.whole(f"skipped: {query.skipped}") for query in document.queries if query.skipped]
-    faults = {*_faults(document), *others}
+        return failed(target.name, error)
     source = document.source
-    shown = [(fault, source.shown) for fault in faults] + [(fault, source.located) for fault in (*skipped, *notes)]
-    messages = [show(fault) for fault, show in sorted(shown, key=itemgetter(0))]
+    rejected = {fault: REJECTED for fault in document.checker.faults(document.queries)}
+    faults = {**dict.fromkeys((*document.faults, *others), RULE), **rejected}
+    said = [placed(source, fault, ERROR, code, source.shown(fault)) for fault, code in faults.items()]
+    said += [placed(source, fault, WARNING, RULE, source.located(fault)) for fault in warnings]
+    said = in_order([*said, *left_out(document, arguments.verbose), *skipped_queries(document, True)])
     parts = [document.summary(), counted(len(faults), "error", "errors")]
+    skipped = sum(1 for query in document.queries if query.skipped)
     if skipped:
-        parts.insert(1, f"{len(skipped)} skipped")
+        parts.insert(1, f"{skipped} skipped")
     summary = f"{visible(source.name)}: {', '.join(parts)}\n"
-    return Report(Status.FOUND if faults else Status.FINE, as_bytes(summary), messages)
-
-
-def _faults(document: Document) -> List[Fault]:
-    return [*document.faults, *document.checker.faults(document.queries)]
+    return Report(Status.FOUND if faults else Status.FINE, as_bytes(summary), said, len(document.queries))

@@ -1,35 +1,45 @@
-"""Dashboards of Grafana, in JSON: the `expr` of each member of a list `targets`, in panels and in rows."""
+"""Dashboards and alert rules of Grafana, in JSON: which strings are queries, `dashboard_places` tells."""
 
 from __future__ import annotations
 
 import json
 import re
+import sys
 from dataclasses import replace
-from typing import Any, Dict, Iterator, List, Mapping, NamedTuple, Optional, Tuple
+from typing import Any, Iterator, List, Mapping, NamedTuple, Optional, Tuple
 
 from .checked_queries import QueryChecker
+from .dashboard_places import JsonPath, is_of_prometheus, is_query, is_variable, query_of_variable, source_of, value_at
 from .files import BLANKS, Fault, FileError, Source, counted
 from .grafana_variables import VARIABLE, read_variables
 from .queries import Edit, PlacedText, Query, SameQuery
 
 _JSON_TOKEN = re.compile(r'"(?:[^"\\]|\\.)*"|[\[\]{}:,]|[^\s\[\]{}:,"]+')
 _PIECE = re.compile(r"[^\\]+|\\u[dD][89abAB]..\\u[dD][c-fC-F]..|\\u....|\\.")
+_UNKNOWN_SOURCE = "a variable whose data source has no type, and which asks for no `label_values(..)` or the like"
+_OTHER_PLACE = "not looked at: an `expr` in a place where Grafana has no queries"
+# What a file of Grafana has, if it may have queries.
+_WORDS = ('"expr"', '"templating"', '"variables"')
 
-JsonPath = Tuple[Any, ...]
+
+def may_have_queries(text: str) -> bool:
+    return any(word in text for word in _WORDS)
 
 
 class JsonString(NamedTuple):
-    """A string of a file, `source[start:end]` with its quotes."""
+    """A string of a file, `source[start:end]` with its quotes, that is a query, or has one between these texts."""
 
     source: str
     start: int
     end: int
+    before: str = ""
+    after: str = ""
 
     def room(self, width: int) -> int:
-        return width
+        return sys.maxsize if self.after else width
 
     def edit(self, text: str) -> Edit:
-        return Edit(self.start, self.end, json.dumps(text, ensure_ascii=self.source.isascii()))
+        return Edit(self.start, self.end, json.dumps(self.before + text + self.after, ensure_ascii=self.source.isascii()))
 
     def read(self) -> PlacedText:
         """What the string says."""
@@ -49,6 +59,7 @@ class Dashboard:
         self.checker = checker or QueryChecker()
         self.faults: List[Fault] = []
         self.notes: List[Fault] = []
+        self.unread: List[Fault] = []
         self._document = _load(source)
         self.queries = list(self._read_queries(variables or {}))
         self.is_known = bool(self.queries)
@@ -66,27 +77,45 @@ class Dashboard:
 
     def _read_queries(self, variables: Mapping[str, str]) -> Iterator[Query]:
         for path, start, token in _json_tokens(self.source.text):
-            if not _is_query(path, token) or not json.loads(token).strip(BLANKS):
+            is_variable_text = self._is_query_variable(path)
+            if not token.startswith('"') or not (is_variable_text or path[-1:] == ("expr",)):
                 continue
-            string = JsonString(self.source.text, start, start + len(token))
-            text = _substituted(string.read(), variables)
-            skipped = self._other_language(path)
-            if skipped or not VARIABLE.search(text.text):
-                yield Query(text.text, [*text.offsets, string.end - 1], string, skipped=skipped)
-            else:
-                read = read_variables(text, self.checker)
-                yield Query(
-                    read.text.text, [*read.text.offsets, string.end - 1], string, read.unknown, variables=read.variables
-                )
+            value = json.loads(token)
+            if not value.strip(BLANKS):
+                continue
+            if not is_variable_text and not is_query(path):
+                self.unread.append(Fault(start, start + len(token), _OTHER_PLACE))
+                continue
+            part = query_of_variable(value) if is_variable_text else (0, len(value))
+            if part:
+                string = JsonString(self.source.text, start, start + len(token), value[: part[0]], value[part[1] :])
+                yield self._query(string, variables, self._why_skipped(path, value))
 
-    def _other_language(self, path: JsonPath) -> str:
+    def _is_query_variable(self, path: JsonPath) -> bool:
+        """Whether this is what a variable asks for, and not the list of its values or the like."""
+        if not is_variable(path):
+            return False
+        item = value_at(self._document, path[: max(at for at, step in enumerate(path) if isinstance(step, int)) + 1])
+        return isinstance(item, dict) and (item.get("type") == "query" or item.get("kind") == "QueryVariable")
+
+    def _query(self, string: JsonString, variables: Mapping[str, str], skipped: str) -> Query:
+        whole, text = string.read(), PlacedText()
+        end = len(whole.text) - len(string.after)
+        text.copy(whole, len(string.before), end)
+        offsets = [*whole.offsets, string.end - 1][end : end + 1]
+        text = _substituted(text, variables)
+        if skipped or not VARIABLE.search(text.text):
+            return Query(text.text, [*text.offsets, *offsets], string, skipped, is_unread=skipped == _UNKNOWN_SOURCE)
+        read = read_variables(text, self.checker)
+        offsets = [*read.text.offsets, *offsets]
+        return Query(read.text.text, offsets, string, read.unknown, variables=read.variables, is_unread=bool(read.unknown))
+
+    def _why_skipped(self, path: JsonPath, value: str) -> str:
         """Why the query in this place is not of Prometheus, or nothing."""
-        for owner in (path[:-1], path[:-3]):
-            source = _at(self._document, owner).get("datasource")
-            kind = source.get("type") if isinstance(source, dict) else None
-            if isinstance(kind, str) and kind != "datasource":
-                return "" if "prometheus" in kind else f"its data source is of the type {kind}"
-        return ""
+        kind = source_of(self._document, path)
+        if not kind:
+            return _UNKNOWN_SOURCE if is_variable(path) and not is_of_prometheus(value) else ""
+        return "" if "prometheus" in kind else f"its data source is of the type {kind}"
 
 
 def _load(source: Source) -> Any:
@@ -94,7 +123,7 @@ def _load(source: Source) -> Any:
         # (a number is only passed over, however many digits it has)
         return json.loads(source.text, parse_int=str, parse_float=str)
     except json.JSONDecodeError as error:
-        raise FileError(source.shown(Fault(error.pos, error.pos, f"not JSON: {error.msg}"))) from error
+        raise FileError.at(source, Fault(error.pos, error.pos, f"not JSON: {error.msg}")) from error
 
 
 def _json_tokens(text: str) -> Iterator[Tuple[JsonPath, int, str]]:
@@ -119,26 +148,21 @@ def _json_tokens(text: str) -> Iterator[Tuple[JsonPath, int, str]]:
         yield place, found.start(), token
 
 
-def _is_query(path: JsonPath, token: str) -> bool:
-    return path[-3:-2] == ("targets",) and isinstance(path[-2], int) and path[-1] == "expr" and token[0] == '"'
-
-
 def _same(old: Tuple[JsonPath, int, str], new: Tuple[JsonPath, int, str], same_query: SameQuery) -> bool:
-    """Whether two tokens are equal, or queries in the same place which `same_query` finds the same."""
+    """Whether two tokens are equal, or have queries in the same place which `same_query` finds the same."""
     (path, _, token), (new_path, _, new_token) = old, new
     if path != new_path or token == new_token:
         return path == new_path
-    return _is_query(path, token) and _is_query(path, new_token) and same_query(json.loads(token), json.loads(new_token))
-
-
-def _at(document: Any, path: JsonPath) -> Dict[str, Any]:
-    """The object of this path, or an empty one where keys that are there twice hide it."""
-    try:
-        for step in path:
-            document = document[step]
-    except (LookupError, TypeError):
-        return {}
-    return document if isinstance(document, dict) else {}
+    if not token[0] == new_token[0] == '"':
+        return False
+    values = json.loads(token), json.loads(new_token)
+    if is_query(path):
+        return same_query(*values)
+    parts = [query_of_variable(value) for value in values] if is_variable(path) else []
+    if None in parts or not parts:
+        return False
+    around = [(value[: part[0]], value[part[1] :]) for value, part in zip(values, parts) if part]
+    return around[0] == around[1] and same_query(*(value[slice(*part)] for value, part in zip(values, parts) if part))
 
 
 def _substituted(text: PlacedText, variables: Mapping[str, str]) -> PlacedText:

@@ -4,10 +4,10 @@ from __future__ import annotations
 
 import re
 from enum import IntEnum
-from typing import List, Mapping, Optional, Protocol, Tuple
+from typing import List, Mapping, NamedTuple, Optional, Protocol, Tuple, Union
 
 from .checked_queries import MOST_FILE_PATTERNS, QueryChecker
-from .dashboards import Dashboard
+from .dashboards import Dashboard, may_have_queries
 from .files import Fault, FileError, Source, nested_too_deeply, read_source
 from .queries import Query, SameQuery
 from .rule_files import RuleFile
@@ -15,6 +15,8 @@ from .targets import Target
 
 
 _GROUPS = re.compile(r"^\s*groups:", re.M)
+# The key of a query, as YAML and JSON have it.
+_QUERY_KEY = re.compile(r"(?<![\w.$-])[\"']?expr[\"']?\s*:")
 
 
 class Status(IntEnum):
@@ -23,6 +25,15 @@ class Status(IntEnum):
     FINE = 0
     FOUND = 1
     FAILED = 2
+    # No file has a query.
+    EMPTY = 3
+
+
+class Skipped(NamedTuple):
+    """A file of a folder that is not looked at: why, and whether that is to be said in any case, since it may have queries."""
+
+    why: str
+    is_warning: bool
 
 
 class Document(Protocol):
@@ -33,6 +44,8 @@ class Document(Protocol):
     faults: List[Fault]
     # What is left out, such as an object without rules between others.
     notes: List[Fault]
+    # What may be a query, in a place that is not known.
+    unread: List[Fault]
     # Whether it is surely what it was taken for.
     is_known: bool
     checker: QueryChecker
@@ -52,36 +65,47 @@ def read_document(
     is_dashboard: bool,
     variables: Optional[Mapping[str, str]] = None,
     most_patterns: int = MOST_FILE_PATTERNS,
-) -> Optional[Document]:
+) -> Union[Document, Skipped]:
     """Reads a file, which is a dashboard where its name ends with .json, too, and whose patterns may measure so much.
 
-    There is nothing to read in a file that was found in a folder, and is something else. One that is not YAML is that where no line
-    of it begins with `groups:`, as in rules.
+    A file that was found in a folder, and is something else, is skipped. One that is not YAML is that where no line of it begins with
+    `groups:`, as in rules, and one that is not JSON where it has no `expr`.
     """
     if target.fault:
         raise FileError(target.fault)
+    if target.left:
+        return Skipped(target.left, True)
     try:
-        document = _read(target.name, is_dashboard or target.name.endswith(".json"), variables, QueryChecker(most_patterns))
+        document = _read(target, is_dashboard, variables, QueryChecker(most_patterns))
     except NotReadError as error:
-        if target.is_found and not _GROUPS.search(error.text):
-            return None
+        if target.is_found and not _GROUPS.search(error.text) and not (target.is_json and _QUERY_KEY.search(error.text)):
+            return Skipped("it is not YAML, and no line of it begins with `groups:`", _QUERY_KEY.search(error.text) is not None)
         raise
-    return document if document.is_known or not target.is_found else None
+    if document is None or target.is_found and not document.is_known:
+        has_query = document is not None and _QUERY_KEY.search(document.source.text) is not None
+        why = "it has an `expr`, and no rules or panels that are known" if has_query else "no rule file"
+        return Skipped(why, has_query or target.is_for_rules)
+    return document
 
 
-def skipped_notes(document: Document, is_verbose: bool) -> List[Fault]:
-    """What is left out of a document, where that is to be said."""
-    return [note._replace(message=f"skipped: {note.message}") for note in document.notes if is_verbose]
-
-
-def _read(name: str, is_dashboard: bool, variables: Optional[Mapping[str, str]], checker: QueryChecker) -> Document:
-    source = read_source(name)
+def _read(
+    target: Target, is_dashboard: bool, variables: Optional[Mapping[str, str]], checker: QueryChecker
+) -> Optional[Document]:
+    """The document of a file; nothing for a file of a folder that surely is none."""
+    source = read_source(target.name)
     try:
-        if is_dashboard:
-            return Dashboard(source, variables, checker)
-        return RuleFile(source, checker)
+        if not is_dashboard and not target.is_json:
+            return RuleFile(source, checker)
+        if target.is_found and not may_have_queries(source.text):
+            return None
+        board = Dashboard(source, variables, checker)
+        if not board.queries and board.unread and not is_dashboard:
+            # (JSON is YAML, too, and some write their rules so)
+            file = RuleFile(source, checker)
+            return file if file.queries else board
+        return board
     except RecursionError as error:
-        raise NotReadError(source, nested_too_deeply(name)) from error
+        raise NotReadError(source, nested_too_deeply(target.name)) from error
     except FileError as error:
         raise NotReadError(source, error) from error
 
@@ -92,3 +116,4 @@ class NotReadError(FileError):
     def __init__(self, source: Source, error: FileError) -> None:
         super().__init__(str(error))
         self.text = source.text
+        self.source, self.span, self.message = error.source, error.span, error.message

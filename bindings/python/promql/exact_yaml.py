@@ -87,10 +87,10 @@ def _compose(source: Source, tokens: Dict[int, Token]) -> List[Any]:
     except yaml.error.MarkedYAMLError as error:
         mark = error.problem_mark or error.context_mark
         offset = mark.index if mark else 0
-        raise FileError(source.shown(Fault(offset, offset, f"not YAML: {error.problem or error.context}"))) from error
+        raise FileError.at(source, Fault(offset, offset, f"not YAML: {error.problem or error.context}")) from error
     except yaml.reader.ReaderError as error:
         fault = Fault(error.position, error.position, "not YAML: a character that is not allowed")
-        raise FileError(source.shown(fault)) from error
+        raise FileError.at(source, fault) from error
     except (yaml.error.YAMLError, ValueError, OverflowError) as error:
         raise FileError(f"{source.name}: not YAML: {error}") from error
 

@@ -13,7 +13,7 @@ from contextlib import contextmanager
 from dataclasses import dataclass
 from functools import cached_property
 from pathlib import Path
-from typing import Iterator, NamedTuple
+from typing import Iterator, NamedTuple, Optional, Tuple
 
 from .line_index import LineIndex
 from .visible import visible
@@ -27,7 +27,22 @@ _BYTE_ORDER_MARK = "\ufeff"
 
 
 class FileError(Exception):
-    """Why nothing is done with a file: what is printed of it."""
+    """Why nothing is done with a file: what is printed of it; where it has a place, that and the message."""
+
+    source: Optional[Source] = None
+    span: Optional[Tuple[int, int]] = None
+    message = ""
+
+    @property
+    def reason(self) -> str:
+        return self.message or str(self)
+
+    @staticmethod
+    def at(source: Source, fault: Fault) -> FileError:
+        """The error that this is wrong with a file."""
+        error = FileError(source.shown(fault))
+        error.source, error.span, error.message = source, (fault.start, fault.end), fault.message
+        return error
 
 
 def nested_too_deeply(name: str) -> FileError:

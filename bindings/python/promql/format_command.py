@@ -13,9 +13,10 @@ from typing import Any, Callable, Dict, Iterator, List, Optional, Tuple
 import promql
 
 from .checked_queries import QueryChecker, limited_to
-from .documents import Document, Status, read_document, skipped_notes
-from .files import BLANKS, STDIN, Fault, FileError, write_file
+from .documents import Document, Skipped, Status, read_document
+from .files import BLANKS, STDIN, FileError, write_file
 from .jobs import Report, add_arguments, as_bytes, skipped_file, work_on
+from .messages import ERROR, KEPT, LAYOUT, REJECTED, RULE, WARNING, Message, in_order, kind_of_skipped, left_out, of_error, of_file, placed
 from .options import whole_number
 from .queries import Query, SameQuery, edited
 from .targets import Target, targets_of
@@ -42,7 +43,7 @@ def add_parser(subparsers: Any) -> None:
     parser.add_argument("--width", type=_width, default=100, help="columns of a line (100)")
     parser.add_argument("--style", choices=STYLES, default=PRETTY, help="how queries are laid out: people keeps comments (pretty)")
     parser.add_argument("--enforce", metavar="MATCHER", help="put a matcher, such as namespace='team-a', into every selector")
-    parser.set_defaults(run=_run)
+    parser.set_defaults(run=_run, command="format")
 
 
 def _width(text: str) -> int:
@@ -136,29 +137,45 @@ def _run(arguments: argparse.Namespace) -> int:
         print(error, file=sys.stderr)
         return Status.FAILED
     targets = targets_of(arguments.files, arguments.dashboard)
-    return work_on(targets, partial(_format_file, arguments, printer), arguments.jobs, goes_on=True, color=arguments.color)
+    work = partial(_format_file, arguments, printer)
+    return work_on(targets, work, arguments, goes_on=True, needs_queries=arguments.check)
 
 
 def _format_file(arguments: argparse.Namespace, printer: Printer, target: Target) -> Report:
-    messages: List[str] = []
+    messages: List[Message] = []
+    queries = 0
     try:
         document = read_document(target, arguments.dashboard, most_patterns=arguments.max_file_patterns)
-        if not document:
-            return skipped_file(target, arguments.verbose)
-        messages += map(document.source.located, skipped_notes(document, arguments.verbose))
-        text = _formatted(document, printer, messages)
+        if isinstance(document, Skipped):
+            return skipped_file(target, document, arguments.verbose)
+        messages += left_out(document, arguments.verbose)
+        queries = len(document.queries)
+        changes = _changes(document, printer, messages)
+        text = _formatted(document, printer, changes)
         status, out = _put_out(target.name, document, text, arguments)
-        return Report(status, as_bytes(out), messages)
+        if arguments.check or arguments.diff:
+            source = document.source
+            messages += [placed(source, query.whole("laid out otherwise"), ERROR, LAYOUT) for query, _ in changes]
+        return Report(status, as_bytes(out), messages, queries)
+    except _FaultsError as error:
+        messages += error.messages
     except FileError as error:
-        messages.append(str(error))
+        messages.append(of_error(target.name, error))
     except OSError as error:
-        messages.append(f"{target.name}: {error.strerror or error}")
-    return Report(Status.FAILED, b"", messages)
+        messages.append(of_file(target.name, error.strerror or str(error)))
+    return Report(Status.FAILED, b"", messages, queries)
 
 
-def _formatted(document: Document, printer: Printer, messages: List[str]) -> str:
-    """The text of the file with its queries as they are to be; what is to be said of others is added to the messages."""
-    changes = _changes(document, printer, messages)
+class _FaultsError(FileError):
+    """Why a file is left as it is: each of its faults."""
+
+    def __init__(self, messages: List[Message]) -> None:
+        super().__init__("it has faults")
+        self.messages = messages
+
+
+def _formatted(document: Document, printer: Printer, changes: List[Tuple[Query, str]]) -> str:
+    """The text of the file with its queries as they are to be."""
     if not changes:
         return document.source.text
     texts: Dict[str, List[Tuple[Query, str]]] = {}
@@ -182,10 +199,16 @@ def _reads_as(document: Document, text: str, same_query: SameQuery) -> bool:
         return False
 
 
-def _changes(document: Document, printer: Printer, messages: List[str]) -> List[Tuple[Query, str]]:
-    """The queries that are to be written in another way, and how."""
-    source, faults, changes = document.source, list(document.faults), []
+def _changes(document: Document, printer: Printer, messages: List[Message]) -> List[Tuple[Query, str]]:
+    """The queries that are to be written in another way, and how; what is to be said of others is added to the messages."""
+    source, changes = document.source, []
+    faults = [placed(source, fault, ERROR, RULE, source.shown(fault)) for fault in document.faults]
     over: List[Query] = []
+
+    def complain(query: Query, message: str) -> None:
+        fault = query.whole(message)
+        faults.append(placed(source, fault, ERROR, KEPT, source.shown(fault)))
+
     for query in document.queries:
         if not query.skipped and not document.checker.admits(query.text):
             over.append(query)
@@ -195,28 +218,27 @@ def _changes(document: Document, printer: Printer, messages: List[str]) -> List[
             text = None if left else printer.text(query)
         except promql.LongOutputError:
             text, left = None, _TOO_LONG
-        except (ValueError, RecursionError) as error:
-            faults.append(_failed(document, query, error))
+        except ValueError as error:
+            fault = document.checker.rejected(query, error)
+            faults.append(placed(source, fault, ERROR, REJECTED, source.shown(fault)))
+            continue
+        except RecursionError:
+            complain(query, "nested too deeply")
             continue
         if text is not None and not is_short(text):
             text, left = None, _TOO_LONG
         if text is None and printer.enforces:
-            faults.append(query.whole(f"not enforced: {left}"))
+            complain(query, f"not enforced: {left}")
         elif text is None:
-            messages.append(source.located(query.whole(f"warning: left as it is: {left or _NOT_BACK}")))
+            fault = query.whole(f"warning: left as it is: {left or _NOT_BACK}")
+            kind = kind_of_skipped(query) if query.skipped else (WARNING, KEPT)
+            messages.append(placed(source, fault, *kind, source.located(fault)))
         elif text != query.original.rstrip("\n"):
             changes.append((query, text))
-    faults += document.checker.left(over)
+    faults += [placed(source, fault, ERROR, REJECTED, source.shown(fault)) for fault in document.checker.left(over)]
     if faults:
-        raise FileError("\n".join(source.shown(fault) for fault in sorted(faults)))
+        raise _FaultsError(in_order(faults))
     return changes
-
-
-def _failed(document: Document, query: Query, error: Exception) -> Fault:
-    """The fault of a query for which this was raised."""
-    if isinstance(error, ValueError):
-        return document.checker.rejected(query, error)
-    return query.whole("nested too deeply")
 
 
 def _put_out(name: str, document: Document, text: str, arguments: argparse.Namespace) -> Tuple[Status, str]:

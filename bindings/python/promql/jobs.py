@@ -8,13 +8,15 @@ import os
 import sys
 from functools import partial
 from multiprocessing.connection import Connection
-from typing import Any, Callable, Iterator, List, NamedTuple, Sequence
+from typing import Any, Callable, Iterator, List, NamedTuple, Optional, Sequence
 
 from . import colors
 from .checked_queries import MOST_FILE_PATTERNS
-from .documents import Status
-from .files import STDIN, FileError, nested_too_deeply
+from .documents import Skipped, Status
+from .files import STDIN, FileError, counted, nested_too_deeply
+from .messages import EMPTY, ERROR, SEVERITIES, SKIPPED, UNREAD, Message, of_error, of_file, of_skipped
 from .options import add_target, whole_number
+from .outputs import OUTPUTS, Told
 from .targets import Target
 from .visible import visible
 
@@ -22,19 +24,39 @@ _MOST_JOBS = 256
 
 
 class Report(NamedTuple):
-    """What a command says of a file."""
+    """What a command says of a file, and how many queries it found there."""
 
     status: Status
     out: bytes
-    err: Sequence[str]
+    messages: Sequence[Message]
+    queries: int = 0
 
     def put_out(self, with_colors: bool = False) -> None:
-        for message in self.err:
-            shown = visible(message, "\t\n")
-            print(colors.painted(shown) if with_colors else shown, file=sys.stderr)
+        for message in self.messages:
+            if message.text:
+                shown = visible(message.text, "\t\n")
+                print(colors.painted(shown) if with_colors else shown, file=sys.stderr)
         sys.stdout.flush()
         sys.stdout.buffer.write(self.out)
         sys.stdout.buffer.flush()
+
+    def told(self, name: str, fails: Callable[[Message], bool]) -> Told:
+        """The messages, and which of them make the file fail."""
+        return Told(name, self.messages, [fails(message) for message in self.messages])
+
+    def judged(self, fails: Callable[[Message], bool]) -> Report:
+        """The same with the status that its messages ask for, unless something failed."""
+        status = Status.FOUND if any(map(fails, self.messages)) else Status.FINE
+        return self if self.status > Status.FOUND else self._replace(status=status)
+
+
+def _fails(fail_on: Optional[str], is_strict: bool, message: Message) -> bool:
+    """Whether the status is 1 for a message: where nothing is said, for errors and all findings of the linter."""
+    if message.code == SKIPPED:
+        return False
+    if is_strict and message.code == UNREAD:
+        return True
+    return message.is_at_least(fail_on) if fail_on else message.severity == ERROR or bool(message.name)
 
 
 def as_bytes(text: str) -> bytes:
@@ -42,9 +64,14 @@ def as_bytes(text: str) -> bytes:
     return text.encode("utf-8", "surrogateescape")
 
 
-def skipped_file(target: Target, is_verbose: bool) -> Report:
+def skipped_file(target: Target, skipped: Skipped, is_verbose: bool) -> Report:
     """What is said of a file of a folder that is something else."""
-    return Report(Status.FINE, b"", [f"{target.name}: skipped: no rule file"] if is_verbose else [])
+    return Report(Status.FINE, b"", of_skipped(target.name, skipped, is_verbose))
+
+
+def failed(name: str, error: FileError) -> Report:
+    """What is said of a file with which nothing is done."""
+    return Report(Status.FAILED, b"", [of_error(name, error)])
 
 
 Work = Callable[[Target], Report]
@@ -65,6 +92,11 @@ def add_arguments(parser: Any, without_file: str = "") -> None:
         metavar="N",
         help=f"the most that the patterns of a file may measure together ({MOST_FILE_PATTERNS})",
     )
+    parser.add_argument(
+        "--output", choices=("text", *OUTPUTS), default="text", help="how messages are printed to standard output (text)"
+    )
+    parser.add_argument("--fail-on", choices=SEVERITIES[::-1], help="the least severe messages with which the status is 1")
+    parser.add_argument("--strict", action="store_true", help="the status is 1 where something that may be a query is not looked at")
     parser.add_argument("-v", "--verbose", action="store_true", help="name what is skipped in files and folders")
 
 
@@ -77,23 +109,32 @@ def _guarded(work: Work, target: Target) -> Report:
     try:
         return work(target)
     except FileError as error:
-        return Report(Status.FAILED, b"", [str(error)])
+        return failed(target.name, error)
     except OSError as error:
-        return Report(Status.FAILED, b"", [f"{target.name}: {error.strerror or error}"])
+        reason = error.strerror or str(error)
     except RecursionError:
-        return Report(Status.FAILED, b"", [str(nested_too_deeply(target.name))])
+        return failed(target.name, nested_too_deeply(target.name))
     except MemoryError:
-        return Report(Status.FAILED, b"", [f"{target.name}: out of memory"])
+        reason = "out of memory"
     except Exception as error:  # (a fault of this package, say: no other file is to lack its report for that)
-        return Report(Status.FAILED, b"", [f"{target.name}: {type(error).__name__}: {error}"])
+        reason = f"{type(error).__name__}: {error}"
+    return Report(Status.FAILED, b"", [of_file(target.name, reason)])
 
 
-def work_on(targets: List[Target], work: Work, jobs: int, goes_on: bool = False, color: str = "never") -> Status:
+def work_on(
+    targets: List[Target], work: Work, arguments: argparse.Namespace, goes_on: bool = False, needs_queries: bool = True
+) -> Status:
     """Puts out what is said of each file, and returns the highest status. It can go on where the output cannot be written."""
-    with_colors = colors.are_wanted(color, sys.stderr)
-    worst = Status.FINE
-    for name, report in zip([target.name for target in targets], reports_of(targets, work, jobs)):
-        worst = max(worst, report.status)
+    with_colors = colors.are_wanted(arguments.color, sys.stderr)
+    fails = partial(_fails, arguments.fail_on, arguments.strict)
+    worst, queries = Status.FINE, 0
+    told: List[Told] = []
+    for name, report in zip([target.name for target in targets], reports_of(targets, work, arguments.jobs)):
+        report = report.judged(fails)
+        worst, queries = max(worst, report.status), queries + report.queries
+        if arguments.output != "text":
+            told.append(report.told(name, fails))
+            report = report._replace(out=b"")
         try:
             report.put_out(with_colors)
         except OSError as error:
@@ -101,7 +142,22 @@ def work_on(targets: List[Target], work: Work, jobs: int, goes_on: bool = False,
                 raise
             print(visible(f"{name}: {error.strerror}"), file=sys.stderr)
             worst = Status.FAILED
+    if worst == Status.FINE and not queries and needs_queries:
+        worst = Status.EMPTY
+        empty = Report(worst, b"", [no_query(len(targets))])
+        told.append(empty.told("", fails))
+        empty.put_out(with_colors)
+    if arguments.output != "text":
+        made = OUTPUTS[arguments.output](arguments.command, told)
+        sys.stdout.buffer.write(as_bytes(made))
+        sys.stdout.buffer.flush()
     return worst
+
+
+def no_query(files: int) -> Message:
+    """That a run found no query in so many files."""
+    message = f"no query was found in {counted(files, 'file', 'files')}"
+    return Message(ERROR, EMPTY, message, text=message)
 
 
 def reports_of(targets: List[Target], work: Work, jobs: int) -> Iterator[Report]:
@@ -127,7 +183,7 @@ def _in_processes(targets: List[Target], work: Work, jobs: int) -> Iterator[Repo
         try:
             report: Report = readers[number % jobs].recv()
         except (EOFError, OSError):
-            report = Report(Status.FAILED, b"", [f"{target.name}: the process that had this file ended"])
+            report = Report(Status.FAILED, b"", [of_file(target.name, "the process that had this file ended")])
         yield report
 
 

@@ -3,19 +3,18 @@
 from __future__ import annotations
 
 import argparse
-import json
 import sys
 from dataclasses import replace
 from functools import partial
 from typing import Any, List, Tuple
 
-from .documents import Document, Status, read_document, skipped_notes
+from .documents import Document, Skipped, Status, read_document
 from .files import STDIN, FileError, Source, counted, read_source, write_file
-from .jobs import Report, add_arguments, as_bytes, reports_of, skipped_file, work_on
-from .lint.file_findings import FileLinter, fault_of
+from .jobs import Report, add_arguments, as_bytes, failed, skipped_file, work_on
+from .lint.file_findings import FileFinding, FileLinter, fault_of
 from .lint.given_queries import GivenQuery
-from .lint.outputs import as_json, as_sarif
-from .lint.table import RULES, Selection, unknown_words
+from .lint.table import RULES, Selection, help_of, name_of, unknown_words
+from .messages import ERROR, RULE, UNREAD, Message, left_out, placed, region_of, skipped_queries
 from .targets import Target, targets_of
 from .visible import visible
 
@@ -27,9 +26,8 @@ def add_parser(subparsers: Any) -> None:
     parser.add_argument("--select", action="append", default=[], type=_codes, metavar="CODES", help="look for these codes alone: P101,P2")
     parser.add_argument("--ignore", action="append", default=[], type=_codes, metavar="CODES", help="leave these codes out")
     parser.add_argument("--fix", action="store_true", help="change the files by what is safe; print queries that are given")
-    parser.add_argument("--output", choices=("text", "json", "sarif"), default="text", help="how findings are printed (text)")
     parser.add_argument("--rules", action="store_true", help="print the codes of the rules, and end")
-    parser.set_defaults(run=_run)
+    parser.set_defaults(run=_run, command="lint")
 
 
 def _codes(text: str) -> Tuple[str, ...]:
@@ -50,23 +48,14 @@ def _run(arguments: argparse.Namespace) -> int:
     targets += targets_of(arguments.files, arguments.dashboard)
     targets = targets or [Target(STDIN)]
     work = partial(_lint_file, arguments, Selection(*(tuple(sum(it, ())) for it in (arguments.select, arguments.ignore))))
-    if arguments.output == "text":
-        return work_on(targets, work, arguments.jobs, goes_on=arguments.fix, color=arguments.color)
-    worst, lines = Status.FINE, b""
-    for report in reports_of(targets, work, arguments.jobs):
-        worst, lines = max(worst, report.status), lines + report.out
-        report._replace(out=b"").put_out()
-    findings = [json.loads(line) for line in lines.splitlines()]
-    made = findings if arguments.output == "json" else as_sarif(findings)
-    sys.stdout.write(json.dumps(made, indent=2) + "\n")
-    return worst
+    return work_on(targets, work, arguments, goes_on=arguments.fix)
 
 
 def _print_rules() -> int:
     for code in sorted(RULES):
         rule = RULES[code]
         asked = "" if rule.is_default else ", by --select alone"
-        print(f"{code} {rule.name} ({rule.severity.value}{asked}): {(rule.look.__doc__ or '').splitlines()[0]}")
+        print(f"{code} {rule.name} ({rule.severity.value}{asked}): {help_of(code)}")
     return Status.FINE
 
 
@@ -82,13 +71,13 @@ def _read(arguments: argparse.Namespace, target: Target) -> Any:
 def _lint_file(arguments: argparse.Namespace, selection: Selection, target: Target) -> Report:
     try:
         document = _read(arguments, target)
-        if not document:
-            return skipped_file(target, arguments.verbose)
+        if isinstance(document, Skipped):
+            return skipped_file(target, document, arguments.verbose)
         if arguments.fix:
             return _fix_file(arguments, selection, target, document)
         return _report(arguments, document, selection, [])
     except FileError as error:
-        return Report(Status.FAILED, b"", [str(error)])
+        return failed(target.name, error)
 
 
 def _fix_file(arguments: argparse.Namespace, selection: Selection, target: Target, document: Document) -> Report:
@@ -96,14 +85,15 @@ def _fix_file(arguments: argparse.Namespace, selection: Selection, target: Targe
     text, count = FileLinter(document, selection).fixed()
     source = document.source
     if isinstance(document, GivenQuery):
-        linter = FileLinter(GivenQuery(replace(source, text=text)), selection)
+        source = replace(source, text=text)
+        linter = FileLinter(GivenQuery(source), selection)
         found = linter.findings()
         status = Status.FAILED if linter.left else Status.FOUND if found else Status.FINE
-        faults = [*map(fault_of, found), *linter.left]
-        shown = [replace(source, text=text).shown(fault) for fault in faults]
-        return Report(status, as_bytes(text if text.endswith("\n") else f"{text}\n"), shown)
+        messages = [finding._replace(text=source.shown(fault_of(it))) for it, finding in zip(found, _messages(source, found))]
+        messages += _not_looked_at(source, linter)
+        return Report(status, as_bytes(text if text.endswith("\n") else f"{text}\n"), messages, 1)
     if target.name == STDIN:
-        return Report(Status.FINE, as_bytes(source.mark + text), [])
+        return Report(Status.FINE, as_bytes(source.mark + text), [], len(document.queries))
     if count:
         write_file(source, (source.mark + text).encode())
         document = _read(arguments, target) or document
@@ -115,14 +105,31 @@ def _report(arguments: argparse.Namespace, document: Document, selection: Select
     linter = FileLinter(document, selection)
     found = linter.findings()
     status = Status.FAILED if linter.left else Status.FOUND if found or document.faults else Status.FINE
-    skipped = [query.whole(f"skipped: {query.skipped}") for query in document.queries if query.skipped]
-    err = [source.located(fault) for fault in skipped_notes(document, arguments.verbose)]
-    err += [source.shown(fault) for fault in (*document.faults, *linter.left)]
-    err += [source.located(fault) for fault in skipped] if arguments.verbose else []
-    if arguments.output != "text":
-        return Report(status, b"".join(json.dumps(as_json(source, it)).encode() + b"\n" for it in found), err)
-    counts = [f"{len(skipped)} skipped"] if skipped else []
+    messages = list(left_out(document, arguments.verbose))
+    messages += [placed(source, fault, ERROR, RULE, source.shown(fault)) for fault in document.faults]
+    messages += [*_not_looked_at(source, linter), *skipped_queries(document, arguments.verbose), *_messages(source, found)]
+    skipped = sum(1 for query in document.queries if query.skipped)
+    counts = [f"{skipped} skipped"] if skipped else []
     counts += [*notes, counted(len(found), "finding", "findings")]
     lines = [visible(source.shown(fault_of(it)), "\t\n") for it in found]
     lines.append(f"{visible(source.name)}: {', '.join([document.summary(), *counts])}")
-    return Report(status, as_bytes("\n".join(lines) + "\n"), err)
+    return Report(status, as_bytes("\n".join(lines) + "\n"), messages, len(document.queries))
+
+
+def _not_looked_at(source: Source, linter: FileLinter) -> List[Message]:
+    return [placed(source, fault, ERROR, UNREAD, source.shown(fault)) for fault in linter.left]
+
+
+def _messages(source: Source, found: List[FileFinding]) -> List[Message]:
+    """The findings, which are printed to standard output."""
+    return [_message(source, it) for it in found]
+
+
+def _message(source: Source, found: FileFinding) -> Message:
+    finding, fix = found.finding, None
+    if finding.fix:
+        edits: List[Any] = [{**region_of(source, it.start, it.end), "text": it.text} for it in found.edits]
+        fix = {"query": found.fixed_query, "edits": edits}
+    region = region_of(source, found.start, found.end)
+    about = name_of(finding.code), help_of(finding.code), fix
+    return Message(finding.severity.value, finding.code, finding.message, source.name, region, "", *about)

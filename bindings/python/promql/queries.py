@@ -80,6 +80,8 @@ class Query(NamedTuple):
     skipped: str = ""
     kept: str = ""
     variables: Optional[VariableTexts] = None
+    # Of one that is skipped: whether it may be a query of Prometheus all the same.
+    is_unread: bool = False
 
     @property
     def text(self) -> str:

@@ -14,9 +14,20 @@ from .go_templates import TemplateError, check_template
 from .yaml_mappings import Mappings
 from .yaml_nodes import Node
 
-# `query_offset` and `labels` of a group are of later versions than 2.42, and `partial_response_strategy` is of Thanos.
-_GROUP_FIELDS = frozenset(("name", "interval", "limit", "rules", "query_offset", "labels", "partial_response_strategy"))
+# `query_offset` and `labels` of a group are of later versions than 2.42, `partial_response_strategy` is of Thanos, and what follows it
+# of Mimir and Cortex.
+_GROUP_FIELDS = frozenset(
+    "name interval limit rules query_offset labels partial_response_strategy evaluation_delay source_tenants"
+    " align_evaluation_time_on_interval remote_write".split()
+)
 _RULE_FIELDS = frozenset(("record", "alert", "expr", "for", "keep_firing_for", "labels", "annotations"))
+# The fields of groups and of rules that an object of Kubernetes has beside these.
+_OBJECT_FIELDS = {
+    "VMRule": frozenset(
+        "concurrency debug eval_alignment eval_delay eval_offset extra_filter_labels headers notifier_headers params tenant type"
+        " update_entries_limit".split()
+    )
+}
 # The keys about which the reader of rules complains itself where they are there twice.
 LOOKED_AT = ("groups", "rules", "expr")
 
@@ -46,6 +57,7 @@ class RuleChecks:
         self._mappings = mappings
         # Each node is looked at once as what it is, however many aliases it has.
         self._seen: Set[Tuple[str, int]] = set()
+        self._fields: FrozenSet[str] = frozenset()
         self._names: Set[str] = set()
         self._rules: Set[_Identity] = set()
         self._identities: Dict[int, _Identity] = {}
@@ -54,11 +66,11 @@ class RuleChecks:
         """Looks at a mapping with `groups`, of which these are all fields."""
         if root.kind == "mapping":
             self._look_at_fields(root, "file", fields)
-        self.look_at_groups(self._mappings.value(root, "groups"))
 
-    def look_at_groups(self, groups: Optional[Node]) -> None:
-        self._names, self._rules = set(), set()
-        for group in _items(groups):
+    def look_at_groups(self, groups: List[Node], object_kind: str) -> None:
+        """Looks at the groups of a file, or of an object of this kind."""
+        self._names, self._rules, self._fields = set(), set(), _OBJECT_FIELDS.get(object_kind, frozenset())
+        for group in (group for group in groups if group.kind == "mapping"):
             name = self._text(group, "name")
             if name and name in self._names:
                 self._complain(self._place(group, "name"), f"a group `{name}` is there before")
@@ -66,26 +78,34 @@ class RuleChecks:
             if self._is_new("group", group):
                 self._look_at_group(group, name)
 
+    def look_at_rules(self, group: Node) -> None:
+        """Looks at the rules of a mapping that may be more than a group."""
+        self._names, self._rules, self._fields = set(), set(), frozenset()
+        self._look_at_rules(group)
+
     def _look_at_group(self, group: Node, name: str) -> None:
-        self._look_at_fields(group, "group", _GROUP_FIELDS)
+        self._look_at_fields(group, "group", _GROUP_FIELDS | self._fields)
         value = self._mappings.value(group, "name")
         if value and not value.is_scalar():
             self._complain(self._place(group, "name"), "`name` is not a text")
         elif not name:
             self._complain(self._place(group, "name"), "a group without `name`")
-        for key in ("interval", "query_offset"):
+        for key in ("interval", "query_offset", "evaluation_delay"):
             self._duration(group, key)
         limit = self._mappings.value(group, "limit")
         if limit and not limit.is_null() and not _is_number(limit):
             self._complain(limit, "`limit` is not a number")
         self._look_at_labels(group, "labels", is_template=False)
+        self._look_at_rules(group)
+
+    def _look_at_rules(self, group: Node) -> None:
         for rule in _items(self._mappings.value(group, "rules")):
             if self._is_new("rule", rule):
                 self._look_at_rule(rule)
             self._look_for_same(rule)
 
     def _look_at_rule(self, rule: Node) -> None:
-        self._look_at_fields(rule, "rule", _RULE_FIELDS)
+        self._look_at_fields(rule, "rule", _RULE_FIELDS | self._fields)
         record, alert = self._name(rule, "record"), self._name(rule, "alert")
         if record and alert:
             self._complain(self._place(rule, "alert"), "a rule with both `record` and `alert`")

@@ -1,9 +1,10 @@
-"""What a YAML document is to the tools for rule files: rules, tests of them, an object of Kubernetes with rules, or none of these."""
+"""What a YAML document is to the tools for rule files: rules, tests of them, something else that has rules in it, or none of these."""
 
 from __future__ import annotations
 
+from difflib import get_close_matches
 from enum import Enum
-from typing import Iterator, NamedTuple, Sequence, Set
+from typing import Iterator, List, NamedTuple, Optional, Sequence, Set
 
 from .token_texts import code_of
 from .yaml_mappings import Mappings
@@ -15,12 +16,17 @@ class Kind(Enum):
     # The unit tests of promtool.
     TESTS = "tests"
     LOKI = "rules of Loki"
+    GRAFANA = "alert rules of Grafana"
+    # A text in an object of Kubernetes that is a file of its own.
+    TEXT = "a text"
+    # An `expr` in a place where no rule is known.
+    UNREAD = "unread"
     # An object of Kubernetes without rules.
     OBJECT = "an object"
     WRONG = "nothing that is known"
 
 
-WITH_QUERIES = (Kind.RULES, Kind.TESTS, Kind.LOKI)
+WITH_QUERIES = (Kind.RULES, Kind.TESTS, Kind.LOKI, Kind.GRAFANA)
 # Of a test, one of these says what it is.
 _TEST_FIELDS = ("promql_expr_test", "alert_rule_test", "input_series")
 
@@ -29,12 +35,32 @@ class RuleDocument(NamedTuple):
     """A document, or an object in a list of Kubernetes."""
 
     kind: Kind
-    # The mapping that has the `groups` or the `tests`, and whether it is a whole document of Prometheus.
+    # The mapping that has the `groups` or the `tests`, or is a group, and whether it is a whole document of Prometheus.
     owner: Node
     is_whole: bool
     # Why nothing is looked at in it.
     note: str = ""
+    # What the mapping has: a list of groups, or of the rules of one.
+    key: str = "groups"
+    # The key of a text, or one that is most likely meant as `groups`.
+    name: Optional[Node] = None
+    # Of an object of Kubernetes.
+    object_kind: str = ""
 
+    def groups(self, mappings: Mappings) -> List[Node]:
+        """The groups of rules."""
+        if self.key == "rules":
+            return [self.owner]
+        items = mappings.value(self.owner, self.key)
+        return list(items.value) if items and items.kind == "sequence" else []
+
+
+# Objects of Kubernetes whose `spec` has groups, or may have none.
+_RULE_KINDS = ("PrometheusRule", "VMRule", "Rules", "ClusterRules", "GlobalRules")
+# How the keys of texts end that are files.
+_RULES_END, _BOARD_END = (".yml", ".yaml", ".rules", ".rule"), ("json",)
+# Of a list so many items at most tell what it is.
+_MOST_ITEMS = 100
 
 # What is after a selector of LogQL, and nowhere in PromQL: a filter of lines, or a stage.
 _FILTERS = tuple(sign + quote for sign in ("|=", "|~", "|>", "!=", "!~", "!>") for quote in '"`')
@@ -55,8 +81,8 @@ def _is_pipeline(texts: Sequence[str]) -> bool:
     return "".join(texts).startswith(_FILTERS) or len(texts) > 1 and texts[0] == "|" and texts[1] in _STAGES
 
 
-def documents_of(root: Node, mappings: Mappings) -> Iterator[RuleDocument]:
-    """The documents in a document of YAML: it itself, or the objects of a list of Kubernetes."""
+def documents_of(root: Node, mappings: Mappings, looks_inside: bool = True) -> Iterator[RuleDocument]:
+    """The documents in a document of YAML: it itself, the objects of a list of Kubernetes, or groups of rules anywhere in it."""
     todo = [root]
     seen: Set[int] = set()
     while todo:
@@ -67,37 +93,105 @@ def documents_of(root: Node, mappings: Mappings) -> Iterator[RuleDocument]:
         items = mappings.value(node, "items")
         if _text(node, "kind", mappings).endswith("List") and items and items.kind == "sequence":
             todo += reversed(items.value)
-        else:
-            yield _document_of(node, mappings)
+            continue
+        document = _document_of(node, mappings)
+        inner = list(_inner_documents(node, mappings)) if looks_inside and _may_have_rules(document) else []
+        yield from inner
+        if all(it.kind is Kind.UNREAD for it in inner):
+            yield document
+
+
+def _may_have_rules(document: RuleDocument) -> bool:
+    """Whether rules are to be looked for in a document that is none of rules."""
+    return document.kind is Kind.OBJECT or document.kind is Kind.WRONG and document.owner.kind == "mapping"
 
 
 def _document_of(node: Node, mappings: Mappings) -> RuleDocument:
     if node.kind != "mapping":
         return RuleDocument(Kind.WRONG, node, True, "the document is not a mapping")
     if mappings.entry(node, "groups"):
-        return RuleDocument(Kind.RULES, node, True)
+        return RuleDocument(_kind_of_groups(node, "groups", mappings), node, True)
     kind, version = (_text(node, key, mappings) for key in ("kind", "apiVersion"))
     if kind and version:
         return _object_of(node, kind, version, mappings)
     if _has_items(node, "tests", _TEST_FIELDS, mappings):
         return RuleDocument(Kind.TESTS, node, True)
-    return RuleDocument(Kind.WRONG, node, True, "this is no rule file: it has no `groups`")
+    note = "this is no rule file: it has no `groups`"
+    for key, value in mappings.entries(node):
+        if key.is_scalar() and get_close_matches(str(key.value), ("groups",), cutoff=0.8) and _are_groups(value, mappings):
+            return RuleDocument(Kind.WRONG, key, True, f"{note}, but `{key.value}`", name=key)
+    return RuleDocument(Kind.WRONG, node, True, note)
 
 
 def _object_of(node: Node, kind: str, version: str, mappings: Mappings) -> RuleDocument:
     spec = mappings.value(node, "spec")
     if spec and version.startswith("loki.") and mappings.entry(spec, "groups"):
         return RuleDocument(Kind.LOKI, spec, False)
-    if spec and kind == "PrometheusRule":
-        return RuleDocument(Kind.RULES, spec, False)
+    if spec and kind in _RULE_KINDS:
+        return RuleDocument(Kind.RULES, spec, False, object_kind=kind)
     return RuleDocument(Kind.OBJECT, node, False, f"no rules: a `{kind}` of Kubernetes")
+
+
+def _inner_documents(root: Node, mappings: Mappings) -> Iterator[RuleDocument]:
+    """What has queries in a document that is no rule file, as an object of Kubernetes or the values of a chart of Helm."""
+    todo, seen = [root], {id(root)}
+    while todo:
+        node = todo.pop()
+        key = next((key for key in ("groups", "rules") if _has_rules(node, key, mappings)), "")
+        if key:
+            yield RuleDocument(_kind_of_groups(node, key, mappings), node, False, key=key)
+            continue
+        if node.kind == "mapping":
+            yield from _in_mapping(node, mappings)
+        parts = node.value if node.kind == "sequence" else [value for _, value in node.value] if node.kind == "mapping" else []
+        todo += [part for part in reversed(parts) if id(part) not in seen]
+        seen.update(map(id, parts))
+
+
+def _in_mapping(node: Node, mappings: Mappings) -> Iterator[RuleDocument]:
+    """The texts of a mapping that are files, and a query that is not looked at."""
+    query = mappings.value(node, "expr")
+    if query and query.is_text():
+        yield RuleDocument(Kind.UNREAD, query, False, "not looked at: an `expr` that is in no rule of a group")
+    for name, value in node.value:
+        if name.is_scalar() and value.is_text() and value.style and _is_file(name.value, value.value):
+            yield RuleDocument(Kind.TEXT, value, False, name=name)
+
+
+def _is_file(name: str, text: str) -> bool:
+    """Whether a text is a file that may have queries."""
+    return name.endswith(_RULES_END) and "groups:" in text or is_board(name) and '"expr"' in text
+
+
+def is_board(name: str) -> bool:
+    """Whether a text is a dashboard, by its key."""
+    return name.endswith(_BOARD_END)
+
+
+def _has_rules(mapping: Node, key: str, mappings: Mappings) -> bool:
+    """Whether a mapping has groups, or the rules of a group, as this key tells."""
+    if key == "rules":
+        return _has_items(mapping, key, ("expr", "data"), mappings)
+    value = mappings.value(mapping, key)
+    return value is not None and _are_groups(value, mappings)
+
+
+def _are_groups(items: Node, mappings: Mappings) -> bool:
+    return items.kind == "sequence" and any(_has_rules(item, "rules", mappings) for item in items.value[:_MOST_ITEMS])
+
+
+def _kind_of_groups(owner: Node, key: str, mappings: Mappings) -> Kind:
+    """Whether groups, or one, are those of Grafana, whose rules have their queries in `data`."""
+    groups = RuleDocument(Kind.RULES, owner, False, key=key).groups(mappings)
+    first = next((group for group in groups if mappings.entry(group, "rules")), owner)
+    return Kind.GRAFANA if _has_items(first, "rules", ("data",), mappings) else Kind.RULES
 
 
 def is_surely_of_rules(document: RuleDocument, mappings: Mappings) -> bool:
     """Whether a document is of rules by more than its key `groups`, which other tools have as well."""
     if document.kind is Kind.RULES and document.is_whole:
         return _has_items(document.owner, "groups", ("rules",), mappings)
-    return document.kind in WITH_QUERIES
+    return document.kind in WITH_QUERIES or document.kind is Kind.TEXT or document.name is not None
 
 
 def _has_items(mapping: Node, key: str, fields: Sequence[str], mappings: Mappings) -> bool:
@@ -105,7 +199,7 @@ def _has_items(mapping: Node, key: str, fields: Sequence[str], mappings: Mapping
     items = mappings.value(mapping, key)
     if not items or items.kind != "sequence":
         return False
-    return any(mappings.entry(item, field) for item in items.value for field in fields)
+    return any(mappings.entry(item, field) for item in items.value[:_MOST_ITEMS] for field in fields)
 
 
 def _text(mapping: Node, key: str, mappings: Mappings) -> str:

@@ -7,49 +7,55 @@ from __future__ import annotations
 
 from dataclasses import replace
 from functools import partial
-from typing import Any, Callable, Dict, Iterator, List, Optional, Set, Tuple
+from typing import Any, Callable, Dict, Iterator, List, Optional, Set, Tuple, Union
 
 from .checked_queries import QueryChecker
+from .dashboards import Dashboard
 from .exact_yaml import ExactYaml, look_for_reader
 from .files import Fault, FileError, Source, counted, nested_too_deeply
+from .placed_files import PlacedFile
 from .queries import Query, SameQuery
 from .quick_yaml import QuickYaml, Unclear
 from .rule_checks import LOOKED_AT, RuleChecks
-from .rule_documents import WITH_QUERIES, Kind, RuleDocument, documents_of, is_logql, is_surely_of_rules
+from .rule_documents import WITH_QUERIES, Kind, RuleDocument, documents_of, is_board, is_logql, is_surely_of_rules
 from .scalars import Scalar
 from .yaml_mappings import Entry, Mappings
 from .yaml_nodes import Node, YamlText
 
-# The parts of a rule file that are in one, by the key; in a list it is None.
+# The parts of a rule file that are in one, by the key; in a list it is None. What is unknown in a document may have groups as well.
 _PARTS = {
-    ("document", "items"): "items",
-    ("items", None): "document",
-    ("document", "spec"): "spec",
-    ("spec", "groups"): "groups",
     ("document", "tests"): "tests",
     ("tests", None): "test",
     ("test", "promql_expr_test"): "queries",
     ("queries", None): "rule",
     ("document", "groups"): "groups",
+    ("document", "rules"): "rules",
     ("groups", None): "group",
     ("group", "rules"): "rules",
     ("rules", None): "rule",
     ("rule", "expr"): "expr",
+    # Of Grafana.
+    ("rule", "data"): "data",
+    ("data", None): "question",
+    ("question", "model"): "model",
+    ("model", "expr"): "expr",
 }
-_FIELDS = frozenset(("groups",))
+# `namespace` is of the files that mimirtool and cortextool load.
+_FIELDS = frozenset(("groups", "namespace"))
 _USED_ELSEWHERE = "an alias has it in another place than `expr`"
 _COMMENT_BELOW = "the comment below it is so far in that it would become a part of it"
 # More rules than anyone writes: only aliases of lists that have aliases make so many.
 _MOST_RULES = 1_000_000
 _TOO_MANY = f"its aliases make more than {_MOST_RULES:,} rules of it"
 _LOKI = "a rule file of Loki, whose queries are LogQL"
+_IN_TEXT = "it is in a text of this file"
 _UNREAD = "the places of its characters cannot be told: write it in another style of YAML"
 
 
 class RuleFile:
     """A rule file, of one document or several."""
 
-    def __init__(self, source: Source, checker: Optional[QueryChecker] = None) -> None:
+    def __init__(self, source: Source, checker: Optional[QueryChecker] = None, has_texts: bool = True) -> None:
         look_for_reader()
         self.source = source
         self.checker = checker or QueryChecker()
@@ -57,10 +63,35 @@ class RuleFile:
             self._parts = _Parts(source, QuickYaml(source))
         except Unclear:
             self._parts = _Parts(source, ExactYaml(source))
+        # The files that are texts of this one.
+        self.texts: List[PlacedFile] = []
+        for name, text, offsets in self._parts.texts if has_texts else ():
+            self._take_text(name, Source(source.name, text, ""), offsets)
         self.queries = self._parts.queries
         self.faults = self._parts.faults
         self.notes = self._parts.notes
+        self.unread = self._parts.unread
         self.is_known = any(is_surely_of_rules(document, self._parts.mappings) for document in self._parts.documents)
+
+    def _take_text(self, name: str, text: Source, offsets: List[int]) -> None:
+        """Reads a file that is a text of this one."""
+        file: Union[Dashboard, RuleFile]
+        try:
+            file = Dashboard(text, None, self.checker) if is_board(name) else RuleFile(text, self.checker, has_texts=False)
+        except FileError as error:
+            at, end = error.span or (0, 0)
+            self._parts.faults.append(Fault(offsets[at], offsets[end], f"in the text `{name}`: {error.reason}"))
+            return
+        placed = PlacedFile(file, offsets)
+        self.texts.append(placed)
+        self._parts.queries += placed.queries(_IN_TEXT)
+        self._parts.faults += placed.faults(file.faults)
+        self._parts.unread += placed.faults(file.unread)
+        self._parts.rules += file.rule_count if isinstance(file, RuleFile) else 0
+
+    @property
+    def rule_count(self) -> int:
+        return self._parts.rules
 
     @property
     def mappings(self) -> Mappings:
@@ -73,9 +104,10 @@ class RuleFile:
     def rules(self) -> Iterator[Node]:
         """The mapping of each rule of Prometheus, once for all its aliases."""
         seen: Set[int] = set()
-        owners = [document.owner for document in self._parts.documents if document.kind is Kind.RULES]
-        for group in self._items(owners, "groups"):
-            for rule in self._items([group], "rules"):
+        mappings = self._parts.mappings
+        for group in (group for it in self._parts.documents if it.kind is Kind.RULES for group in it.groups(mappings)):
+            rules = mappings.value(group, "rules")
+            for rule in rules.value if rules and rules.kind == "sequence" else ():
                 if rule.kind == "mapping" and id(rule) not in seen:
                     seen.add(id(rule))
                     yield rule
@@ -84,26 +116,31 @@ class RuleFile:
         """What a rule has under a key."""
         return self._parts.mappings.value(rule, key)
 
-    def _items(self, owners: List[Node], key: str) -> Iterator[Node]:
-        for owner in owners:
-            items = self._parts.mappings.value(owner, key)
-            yield from items.value if items and items.kind == "sequence" else ()
-
     def summary(self) -> str:
         parts = self._parts
-        tests = [counted(parts.tests, "query", "queries")] if parts.tests else []
+        boards = sum(len(it.document.queries) for it in self.texts if isinstance(it.document, Dashboard))
+        tests = [counted(parts.tests + boards, "query", "queries")] if parts.tests + boards else []
         return ", ".join(tests if tests and not parts.rules else [counted(parts.rules, "rule", "rules"), *tests])
 
     def checks(self) -> Tuple[List[Fault], List[Fault]]:
-        found = RuleChecks(self._parts.mappings)
+        mappings = self._parts.mappings
+        found = RuleChecks(mappings)
         try:
             for document in self._parts.documents:
-                if document.kind is Kind.RULES and document.is_whole:
+                if document.kind is not Kind.RULES:
+                    continue
+                if document.is_whole:
                     found.look_at_file(document.owner, _FIELDS)
-                elif document.kind is Kind.RULES:
-                    found.look_at_groups(self._parts.mappings.value(document.owner, "groups"))
+                if document.key == "rules":
+                    found.look_at_rules(document.owner)
+                else:
+                    found.look_at_groups(document.groups(mappings), document.object_kind)
         except RecursionError as error:
             raise nested_too_deeply(self.source.name) from error
+        for text in self.texts:
+            faults, warnings = text.document.checks()
+            found.faults += text.faults(faults)
+            found.warnings += text.faults(warnings)
         return found.faults, found.warnings
 
     def same(self, text: str, same_query: SameQuery) -> bool:
@@ -128,19 +165,25 @@ class _Parts:
         self._source = source
         self.yaml = yaml
         self.faults: List[Fault] = []
+        self.unread: List[Fault] = []
+        # The name of each text that is a file, the text, and the places of its characters.
+        self.texts: List[Tuple[str, str, List[int]]] = []
         self.rules = 0
         self.tests = 0
         # The key and the value of each `expr`, once for all its aliases.
         self._found: Dict[int, Tuple[Node, Node]] = {}
         # How many rules a node has: each node is looked at once, however many aliases it has.
         self._counts: Dict[Tuple[str, int], int] = {}
-        # Those that are of Loki.
-        self._left: Set[int] = set()
+        # Why those are skipped that are of Loki, or of others.
+        self._left: Dict[int, str] = {}
         self.mappings = Mappings(source.name)
-        self.documents = [self._seen(document) for root in yaml.roots for document in documents_of(root, self.mappings)]
+        looks_inside = "expr" in source.text
+        self.documents = [
+            self._seen(document) for root in yaml.roots for document in documents_of(root, self.mappings, looks_inside)
+        ]
         if self.rules + self.tests > _MOST_RULES:
             raise FileError(f"{self._source.name}: {_TOO_MANY}")
-        self.has_rules = any(document.kind in WITH_QUERIES for document in self.documents)
+        self.has_rules = any(document.kind in WITH_QUERIES or document.kind is Kind.TEXT for document in self.documents)
         places = [Fault(it.owner.start, it.owner.start, it.note) for it in self.documents if it.kind is Kind.OBJECT]
         self.faults += [] if self.has_rules else places
         self.notes = places if self.has_rules else []
@@ -148,18 +191,56 @@ class _Parts:
 
     def _seen(self, document: RuleDocument) -> RuleDocument:
         """Looks for the queries of a document, which tell whether it is of Loki."""
-        count = len(self._found)
+        count, owner = len(self._found), document.owner
         if document.kind is Kind.WRONG:
-            self._complain(document.owner, document.note)
+            self._complain(owner, document.note)
         elif document.kind is Kind.TESTS:
-            self.tests += self._count_in(document.owner, "tests", "a test", self._count_in_test)
+            self.tests += self._count_in(owner, "tests", "a test", self._count_in_test)
+        elif document.kind is Kind.UNREAD:
+            self.unread.append(Fault(owner.start, owner.start, document.note))
+        elif document.kind is Kind.TEXT and document.name:
+            self._take_text(document.name, owner)
         elif document.kind is not Kind.OBJECT:
-            self.rules += self._count_in(document.owner, "groups", "a group", self._count_in_group)
+            in_group = self._count_in_grafana_group if document.kind is Kind.GRAFANA else self._count_in_group
+            is_group = document.key == "rules"
+            self.rules += self._once("group", owner, in_group) if is_group else self._count_in(owner, "groups", "a group", in_group)
         found = [node for _, node in list(self._found.values())[count:]]
         if document.kind is Kind.LOKI or document.kind is Kind.RULES and any(is_logql(node.value) for node in found):
-            self._left.update(map(id, found))
+            self._left.update({id(node): _LOKI for node in found})
             return document._replace(kind=Kind.LOKI)
         return document
+
+    def _take_text(self, name: Node, text: Node) -> None:
+        """Keeps a text that is a file, with the places of its characters."""
+        offsets = self._scalar(name, text).offsets(text.value)
+        if offsets is None:
+            self.yaml.refuse()
+            self._complain(text, _UNREAD)
+        else:
+            self.texts.append((str(name.value), text.value, offsets))
+
+    def _count_in_grafana_group(self, group: Node) -> int:
+        return self._count_in(group, "rules", "a rule", self._look_at_grafana_rule)
+
+    def _look_at_grafana_rule(self, rule: Node) -> int:
+        """Looks for the queries of an alert rule of Grafana."""
+        self._count_in(rule, "data", "a query", self._look_at_question)
+        return 1
+
+    def _look_at_question(self, question: Node) -> int:
+        """Looks at one of the questions of an alert rule, which asks a data source or computes something."""
+        model = self.mappings.value(question, "model")
+        entry = self._entry(model, "expr") if model else None
+        if not model or not entry or not entry[1].is_text():
+            return 0
+        self._found.setdefault(id(entry[1]), entry)
+        source = self.mappings.value(model, "datasource")
+        kind = self.mappings.value(source, "type") if source else None
+        if kind and kind.is_text() and "prometheus" not in kind.value:
+            self._left[id(entry[1])] = f"its data source is of the type {kind.value}"
+        elif is_logql(entry[1].value):
+            self._left[id(entry[1])] = "it is LogQL"
+        return 1
 
     def _count_in_test(self, test: Node) -> int:
         return self._count_in(test, "promql_expr_test", "a query", partial(self._look_at_rule, "a test of a query"))
@@ -220,21 +301,24 @@ class _Parts:
 
     def _read_queries(self) -> Iterator[Query]:
         others = (
-            {id(node) for root in self.yaml.roots for part, node in _reached(root) if part == "other"}
+            {id(node) for root in self.yaml.roots for part, node in _reached(root) if part != "expr"}
             if self.yaml.has_aliases
             else ()
         )
         for key, node in self._found.values():
-            start, before, in_flow = self.yaml.token(key, node)
-            scalar = Scalar(self._source.text, start, node.end, before, node.style, in_flow, key.column)
+            scalar = self._scalar(key, node)
             offsets = scalar.offsets(node.value)
             if offsets is None:
                 self.yaml.refuse()
-                self.faults.append(Fault(start, start, _UNREAD))
+                self.faults.append(Fault(scalar.start, scalar.start, _UNREAD))
             else:
                 comment_below = scalar.is_block() and scalar.has_comment_below()
                 kept = _USED_ELSEWHERE if id(node) in others else _COMMENT_BELOW if comment_below else ""
-                yield Query(node.value, offsets, scalar, _LOKI if id(node) in self._left else "", kept)
+                yield Query(node.value, offsets, scalar, self._left.get(id(node), ""), kept)
+
+    def _scalar(self, key: Node, value: Node) -> Scalar:
+        start, before, in_flow = self.yaml.token(key, value)
+        return Scalar(self._source.text, start, value.end, before, value.style, in_flow, key.column)
 
 
 def _children(part: str, node: Node) -> Iterator[Tuple[str, Node]]:
@@ -246,7 +330,7 @@ def _children(part: str, node: Node) -> Iterator[Tuple[str, Node]]:
         for key, value in node.value:
             yield "other", key
             name = key.value if key.kind == "scalar" else None
-            yield part if key.is_merge() else _PARTS.get((part, name), "other"), value
+            yield part if key.is_merge() else _PARTS.get((part, name), part if part == "document" else "other"), value
 
 
 def _reached(root: Node) -> Iterator[Tuple[str, Node]]:

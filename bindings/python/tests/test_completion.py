@@ -17,7 +17,7 @@ COMPLETED = (
     (("format",), "--wi", ["--width"]),
     (("format", "a.yml", "--color"), "", ["always", "auto", "never"]),
     (("completion",), "b", ["bash"]),
-    (("lint", "a.yml", "--output"), "", ["json", "sarif", "text"]),
+    (("lint", "a.yml", "--output"), "", ["github", "json", "junit", "sarif", "text"]),
     (("serve",), "--p", ["--port"]),
 )
 

@@ -162,7 +162,7 @@ class Folders(unittest.TestCase):
             targets = [jobs.Target("a"), jobs.Target("b")]
             reports = list(jobs.reports_of(targets, work, 1))
             self.assertEqual([report.status for report in reports], [2, 0])
-            self.assertIn(said, reports[0].err[0])
+            self.assertIn(said, reports[0].messages[0].text)
 
 
 class Layouts(unittest.TestCase):

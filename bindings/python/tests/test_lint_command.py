@@ -315,7 +315,7 @@ class Files(Folder):
         self.assertIn("this is no rule file", ran.err)
         self.assertEqual(run("lint", self.file("a: [")).status, 2)
         self.assertEqual(run("lint", self.folder / "none.yml").status, 2)
-        self.assertEqual(run("lint", self.folder).status, 0)
+        self.assertEqual(run("lint", self.folder).status, 3)
 
     def test_styles(self):
         """Fixed files have the fixed queries, and all else as it was."""

@@ -6,7 +6,7 @@ import unittest
 from command_line import run
 from rule_verdicts import AFTER_ALERT, RULES
 from syntax_errors import NO_OPERAND
-from test_rule_files import Folder
+from test_rule_files import NO_QUERY, Folder
 
 OBJECT = """\
 apiVersion: monitoring.coreos.com/v1
@@ -105,7 +105,7 @@ class Objects(Folder):
     def test_without_groups(self):
         for spec in ("spec: {}", "spec:", "spec: {groups: }"):
             path = self.file(f"apiVersion: monitoring.coreos.com/v1\nkind: PrometheusRule\n{spec}\n")
-            self.assertEqual(run("check", path)[:2], (0, f"{path}: no rules, no errors\n"), spec)
+            self.assertEqual(run("check", path), (3, f"{path}: no rules, no errors\n", NO_QUERY), spec)
 
 
 class Tests(Folder):
@@ -175,11 +175,13 @@ class Folders(Folder):
         "helm.yaml": "a: {{ .Values.a }}\n{{ if b }}\n",
         "latin.yml": b"a: \xe9\n",
         "other.txt": "a b",
-        "board.json": '{"panels": [{"targets": [{"expr": "up ="}]}]}',
+        "board.json": '{"panels": [{"targets": [{"expr": "up"}]}]}',
         "package.json": "{}",
         ".hidden.yml": "a b: c:",
         ".git/config.yml": "groups: [{rules: [{expr: up ==}]}]",
     }
+
+    FOUND = ("a.yml: 1 rule", "board.json: 1 query", "deep/c.yml: 2 queries", "deep/er/b.yaml: 1 rule")
 
     def setUp(self):
         super().setUp()
@@ -189,15 +191,16 @@ class Folders(Folder):
             path.write_bytes(text if isinstance(text, bytes) else text.encode())
 
     def test_check(self):
-        said = [f"{self.folder}/{name}" for name in ("a.yml: 1 rule", "deep/c.yml: 2 queries", "deep/er/b.yaml: 1 rule")]
+        said = [f"{self.folder}/{name}" for name in self.FOUND]
         (self.folder / "latin.yml").unlink()
         for jobs in (1, 3):
             ran = run("check", "--jobs", jobs, self.folder)
             self.assertEqual(ran, (0, "".join(f"{line}, no errors\n" for line in said), ""))
-        others = ("deep/service.yaml", "empty.yml", "groups.yml", "helm.yaml")
-        self.assertEqual(
-            run("check", "-v", self.folder).err, "".join(f"{self.folder}/{it}: skipped: no rule file\n" for it in others)
-        )
+        others = {it: "no rule file" for it in ("deep/service.yaml", "empty.yml", "groups.yml")}
+        others["helm.yaml"] = "it is not YAML, and no line of it begins with `groups:`"
+        others["package.json"] = "no rule file"
+        said = "".join(f"{self.folder}/{name}: skipped: {why}\n" for name, why in others.items())
+        self.assertEqual(run("check", "-v", self.folder).err, said)
 
     def test_format(self):
         ran = run("format", "--check", self.folder)
@@ -214,13 +217,14 @@ class Folders(Folder):
         self.assertEqual(run("check", self.folder / "helm.yaml").status, 2)
 
     def test_dashboards(self):
+        (self.folder / "board.json").write_text('{"panels": [{"targets": [{"expr": "up ="}]}]}')
         ran = run("check", "--dashboard", self.folder)
         self.assertEqual((ran.status, ran.out), (1, f"{self.folder}/board.json: 1 query, 1 error\n"))
 
     def test_nothing(self):
         empty = self.folder / "none"
         empty.mkdir()
-        said = f"{empty}: no file in it ends in .yml or .yaml\n"
+        said = f"{empty}: no file in it ends in .yml, .yaml, .rules, .rule or .json\n"
         self.assertEqual(run("check", empty), (2, "", said))
         self.assertEqual(run("format", empty, self.folder / "a.yml"), (2, AFTER_ALERT, said))
 

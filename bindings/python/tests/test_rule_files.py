@@ -79,6 +79,8 @@ def aliases(groups, rules):
     """A rule file of so many groups, all aliases of one, with so many rules, all aliases of one."""
     return f"r: &r [&q {{expr: up}}{', *q' * (rules - 1)}]\ng: &g {{name: a, rules: *r}}\ngroups: [*g{', *g' * (groups - 1)}]\n"
 
+NO_QUERY = "no query was found in 1 file\n"
+
 
 class Folder(unittest.TestCase):
     """Tests with a folder of their own."""
@@ -399,7 +401,7 @@ class Checks(Folder):
             "---\n---\n",
         ):
             path = self.file(text)
-            self.assertEqual(run("check", "--queries", path)[:2], (0, f"{path}: no rules, no errors\n"), text)
+            self.assertEqual(run("check", "--queries", path), (3, f"{path}: no rules, no errors\n", NO_QUERY), text)
             self.assertEqual(run("format", path)[:2], (0, text), text)
 
     def test_unreadable(self):

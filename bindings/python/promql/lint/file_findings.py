@@ -10,6 +10,7 @@ from typing import Any, Dict, List, NamedTuple, Optional, Sequence, Tuple
 from ..dashboards import Dashboard, JsonString
 from ..documents import Document
 from ..files import BLANKS, Fault, FileError, Source
+from ..placed_files import PlacedSpelling
 from ..queries import Edit, Query, edited
 from ..rule_files import RuleFile
 from ..scalars import Scalar
@@ -72,6 +73,10 @@ class FileLinter:
         found = rules_of(file)
         for rule in found.places:
             self._rules.setdefault(rule.query_end, []).append(rule)
+        for text in file.texts:
+            for rule in rules_of(text.document).places if isinstance(text.document, RuleFile) else ():
+                placed = RulePlace(text.at(rule.start), text.at(rule.end), text.at(rule.query_end), rule.context)
+                self._rules.setdefault(placed.query_end, []).append(placed)
         message = f"its aliases are in groups of more than {MOST_INTERVALS} intervals: the rule is looked at with {MOST_INTERVALS} of these"
         self.left += [Fault(at, at, message) for at in found.cut]
 
@@ -99,7 +104,7 @@ class FileLinter:
 
     def _rules_of(self, query: Query) -> Sequence[RulePlace]:
         spelling = query.spelling
-        return self._rules.get(spelling.end, ()) if isinstance(spelling, Scalar) else ()
+        return self._rules.get(spelling.end, ()) if isinstance(spelling, (Scalar, PlacedSpelling)) else ()
 
     def _look_at_query(self, query: Query) -> List[Finding]:
         """What is found in a query, for each of the rules that have it."""

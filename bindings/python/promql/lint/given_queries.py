@@ -31,6 +31,7 @@ class GivenQuery:
         self.checker = QueryChecker()
         self.faults: List[Fault] = []
         self.notes: List[Fault] = []
+        self.unread: List[Fault] = []
         self.queries = [Query(source.text, range(len(source.text) + 1), _Whole(len(source.text)))]
 
     def summary(self) -> str:

@@ -48,7 +48,7 @@ class RulePlaces(NamedTuple):
 def rules_of(file: RuleFile) -> RulePlaces:
     """The rules of a file that have queries. Each is there once for all its aliases in groups of one interval."""
     documents = [it for it in file.documents if it.kind is Kind.RULES]
-    groups = list(_once(group for document in documents for group in _items(file.mappings, document.owner, "groups")))
+    groups = list(_once(group for it in documents for group in it.groups(file.mappings) if group.kind == "mapping"))
     return _Reader(file.mappings, groups).read()
 
 

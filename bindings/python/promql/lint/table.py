@@ -26,6 +26,10 @@ RULES: Dict[str, Rule] = {}
 # What is no rule of its own: the library rejects the query; its patterns and values are too large together to be compared.
 REJECTED, UNCOMPARED = "P001", "P002"
 NAMES = {REJECTED: "rejected", UNCOMPARED: "not-compared"}
+_HELPS = {
+    REJECTED: "The query is rejected.",
+    UNCOMPARED: "The patterns of the query are too large to be compared with its values.",
+}
 
 
 def rule(code: str, name: str, severity: Severity, is_default: bool = True) -> Callable[[Look], Look]:
@@ -37,6 +41,15 @@ def rule(code: str, name: str, severity: Severity, is_default: bool = True) -> C
         return look
 
     return enter
+
+
+def name_of(code: str) -> str:
+    return NAMES.get(code) or RULES[code].name
+
+
+def help_of(code: str) -> str:
+    """What a rule looks for, in a sentence."""
+    return _HELPS.get(code) or (RULES[code].look.__doc__ or "").split("\n")[0]
 
 
 def known_codes() -> List[str]:

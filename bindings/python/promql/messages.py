@@ -1,0 +1,115 @@
+"""What the commands over files say: messages with a severity, a code and a place, whichever way they are printed."""
+
+from __future__ import annotations
+
+from typing import Any, Dict, Iterable, Iterator, List, NamedTuple, Optional, Tuple
+
+from .documents import Document, Skipped
+from .files import Fault, FileError, Source
+from .queries import Query
+
+# From the least severe on.
+SEVERITIES = INFO, WARNING, ERROR = ("info", "warning", "error")
+# The codes beside those of the linter: what is wrong with a rule or a file, what is not looked at and may be a query, what is left out
+# since it is something else, a query that is laid out otherwise or stays as it is, and a run that found no query.
+RULE, FILE, UNREAD, SKIPPED, LAYOUT, KEPT, EMPTY = "rule", "file", "unread", "skipped", "layout", "kept", "empty"
+REJECTED = "P001"
+# Of a file so many places at most are named that are not looked at.
+MOST_UNREAD = 100
+DESCRIPTIONS = {
+    RULE: "A rule, a group or a file of rules has a fault beside its queries.",
+    FILE: "A file cannot be read or written.",
+    UNREAD: "What may be a query is not looked at.",
+    SKIPPED: "What is no query of Prometheus is left out.",
+    LAYOUT: "A query is laid out otherwise.",
+    KEPT: "A query is not laid out.",
+    EMPTY: "No query was found.",
+    REJECTED: "The query is rejected.",
+}
+
+
+class Message(NamedTuple):
+    """A message about a file, or a part of it."""
+
+    severity: str
+    code: str
+    message: str
+    file: str = ""
+    # The lines and columns of the part by their names in reports: they count from 1, and the end is not in the part.
+    region: Optional[Dict[str, int]] = None
+    # As it is printed to standard error; nothing where a command prints it otherwise, or not at all.
+    text: str = ""
+    # Of a finding of the linter: the name of its rule, what that looks for, and the changed query with the edits that make it.
+    name: str = ""
+    help: str = ""
+    fix: Optional[Dict[str, Any]] = None
+
+    def is_at_least(self, severity: str) -> bool:
+        return SEVERITIES.index(self.severity) >= SEVERITIES.index(severity)
+
+    def as_json(self) -> Dict[str, Any]:
+        region = self.region or dict.fromkeys(("line", "column", "endLine", "endColumn"))
+        said = {"code": self.code, "name": self.name or self.code, "severity": self.severity, "message": self.message}
+        return {"file": self.file or None, **region, **said, "fix": self.fix}
+
+
+def region_of(source: Source, start: int, end: int) -> Dict[str, int]:
+    (line, column), (end_line, end_column) = source.lines.place(start), source.lines.place(end)
+    return {"line": line, "column": column, "endLine": end_line, "endColumn": end_column}
+
+
+def placed(source: Source, fault: Fault, severity: str, code: str, text: str = "") -> Message:
+    """A message about a part of a file, which is printed as this text."""
+    message = fault.message[len("warning: ") :] if fault.message.startswith("warning: ") else fault.message
+    return Message(severity, code, message, source.name, region_of(source, fault.start, fault.end), text)
+
+
+def in_order(messages: Iterable[Message]) -> List[Message]:
+    """The messages of a file by their places, and by what they say."""
+    return sorted(messages, key=lambda it: (*(it.region or {}).values(), it.message))
+
+
+def of_file(name: str, message: str, severity: str = ERROR, code: str = FILE) -> Message:
+    """A message about a whole file."""
+    shown = f"{name}: {message}" if severity == ERROR else f"{name}: {severity}: {message}"
+    return Message(severity, code, message, name, None, shown)
+
+
+def of_error(name: str, error: FileError) -> Message:
+    """Why nothing is done with a file."""
+    region = region_of(error.source, *error.span) if error.source and error.span else None
+    reason = error.reason[len(name) + 2 :] if error.reason.startswith(f"{name}: ") else error.reason
+    return Message(ERROR, FILE, reason, name, region, str(error))
+
+
+def of_skipped(name: str, skipped: Skipped, is_verbose: bool) -> List[Message]:
+    """What is said of a file of a folder that is not looked at."""
+    if skipped.is_warning:
+        return [of_file(name, f"skipped: {skipped.why}", WARNING, UNREAD)]
+    return [Message(INFO, SKIPPED, skipped.why, name, None, f"{name}: skipped: {skipped.why}")] if is_verbose else []
+
+
+def left_out(document: Document, is_verbose: bool) -> Iterator[Message]:
+    """What is not looked at in a document beside queries that are skipped."""
+    source = document.source
+    for note in document.notes if is_verbose else ():
+        fault = note._replace(message=f"skipped: {note.message}")
+        yield placed(source, fault, INFO, SKIPPED, source.located(fault))
+    for number, fault in enumerate(document.unread[:MOST_UNREAD], 1):
+        if number == MOST_UNREAD < len(document.unread):
+            fault = fault._replace(message=f"{fault.message}; nor are {len(document.unread) - MOST_UNREAD:,} more")
+        yield placed(source, fault, WARNING, UNREAD, source.located(fault._replace(message=f"warning: {fault.message}")))
+
+
+def skipped_queries(document: Document, is_printed: bool) -> Iterator[Message]:
+    """The queries that are skipped. In text that is printed where it is asked for."""
+    source = document.source
+    for query in document.queries:
+        if query.skipped:
+            fault = query.whole(f"skipped: {query.skipped}")
+            yield placed(source, fault, *kind_of_skipped(query), source.located(fault) if is_printed else "")
+
+
+def kind_of_skipped(query: Query) -> Tuple[str, str]:
+    """The severity and the code of a query that is skipped."""
+    return (WARNING, UNREAD) if query.is_unread else (INFO, SKIPPED)
