@@ -3,7 +3,6 @@
 from __future__ import annotations
 
 import argparse
-from functools import partial
 from typing import Any, Tuple
 
 from .documents import Skipped, Status, read_document
@@ -40,7 +39,7 @@ def _variable(text: str) -> Tuple[str, str]:
 
 def _run(arguments: argparse.Namespace) -> int:
     targets = targets_of(arguments.files, arguments.dashboard)
-    return work_on(targets, partial(_check_file, arguments), arguments)
+    return work_on(targets, _check_file, arguments)
 
 
 def _check_file(arguments: argparse.Namespace, target: Target) -> Report:

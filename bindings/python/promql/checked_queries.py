@@ -55,6 +55,9 @@ class _Verdicts:
         self._known: Dict[str, Optional[ValueError]] = {}
         self._kept = 0
 
+    def forget(self) -> None:
+        self._known, self._kept = {}, 0
+
     def of(self, query: str) -> Optional[ValueError]:
         if query not in self._known:
             found = _check(query)
@@ -75,6 +78,11 @@ def _check(query: str) -> Optional[ValueError]:
 
 
 _VERDICTS = _Verdicts()
+
+
+def forget_verdicts() -> None:
+    """Asks the library anew from now on, since it has other limits."""
+    _VERDICTS.forget()
 
 
 class QueryChecker:

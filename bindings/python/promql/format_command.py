@@ -17,7 +17,7 @@ from .documents import Document, Skipped, Status, read_document
 from .files import BLANKS, STDIN, FileError, write_file
 from .jobs import Report, add_arguments, as_bytes, skipped_file, work_on
 from .messages import ERROR, KEPT, LAYOUT, REJECTED, RULE, WARNING, Message, in_order, kind_of_skipped, left_out, of_error, of_file, placed
-from .options import whole_number
+from .options import PRETTY, STYLES, WIDTH, whole_number
 from .queries import Query, SameQuery, edited
 from .targets import Target, targets_of
 from .token_texts import comments_of
@@ -29,8 +29,6 @@ _ANY_VALUES = "its variables of Grafana may have any values"
 _TOO_LONG = "laid out, it would be longer than a query may be"
 _NOT_BACK = "its variables of Grafana would not come back"
 _LINE = re.compile(r"[^\n]*\n|[^\n]+")
-# How a query is laid out: as `promql pretty` does, or for people, as `promql_format` does, with its comments.
-PRETTY, PEOPLE = STYLES = ("pretty", "people")
 
 
 def add_parser(subparsers: Any) -> None:
@@ -40,8 +38,8 @@ def add_parser(subparsers: Any) -> None:
     output.add_argument("--check", action="store_true", help="print the names of the files that would change")
     output.add_argument("--diff", action="store_true", help="print what would change")
     output.add_argument("--write", action="store_true", help="change the files")
-    parser.add_argument("--width", type=_width, default=100, help="columns of a line (100)")
-    parser.add_argument("--style", choices=STYLES, default=PRETTY, help="how queries are laid out: people keeps comments (pretty)")
+    parser.add_argument("--width", type=_width, help=f"columns of a line ({WIDTH})")
+    parser.add_argument("--style", choices=STYLES, help="how queries are laid out: people keeps comments (pretty)")
     parser.add_argument("--enforce", metavar="MATCHER", help="put a matcher, such as namespace='team-a', into every selector")
     parser.set_defaults(run=_run, command="format")
 
@@ -131,17 +129,20 @@ def _enforcer(matcher: Optional[str]) -> Callable[[str], str]:
 
 
 def _run(arguments: argparse.Namespace) -> int:
+    if arguments.output != "text" and not (arguments.check or arguments.diff or arguments.write):
+        print("--output is for --check, --diff and --write: the text of a file is printed as it is", file=sys.stderr)
+        return Status.FAILED
     try:
-        printer = Printer(arguments.width, arguments.enforce is not None, _enforcer(arguments.enforce), arguments.style)
+        enforcer = _enforcer(arguments.enforce)
     except FileError as error:
         print(error, file=sys.stderr)
         return Status.FAILED
     targets = targets_of(arguments.files, arguments.dashboard)
-    work = partial(_format_file, arguments, printer)
-    return work_on(targets, work, arguments, goes_on=True, needs_queries=arguments.check)
+    return work_on(targets, partial(_format_file, enforcer), arguments, goes_on=True, needs_queries=arguments.check)
 
 
-def _format_file(arguments: argparse.Namespace, printer: Printer, target: Target) -> Report:
+def _format_file(enforcer: Callable[[str], str], arguments: argparse.Namespace, target: Target) -> Report:
+    printer = Printer(arguments.width, arguments.enforce is not None, enforcer, arguments.style)
     messages: List[Message] = []
     queries = 0
     try:

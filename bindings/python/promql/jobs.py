@@ -18,18 +18,20 @@ from .messages import EMPTY, ERROR, SEVERITIES, SKIPPED, UNREAD, Message, of_err
 from .options import add_target, whole_number
 from .outputs import OUTPUTS, Told
 from .targets import Target
+from .team_settings import settings_read_anew, with_settings
 from .visible import visible
 
 _MOST_JOBS = 256
 
 
 class Report(NamedTuple):
-    """What a command says of a file, and how many queries it found there."""
+    """What a command says of a file, how many queries it found there, and which of the messages make it fail."""
 
     status: Status
     out: bytes
     messages: Sequence[Message]
     queries: int = 0
+    failures: Sequence[bool] = ()
 
     def put_out(self, with_colors: bool = False) -> None:
         for message in self.messages:
@@ -40,17 +42,14 @@ class Report(NamedTuple):
         sys.stdout.buffer.write(self.out)
         sys.stdout.buffer.flush()
 
-    def told(self, name: str, fails: Callable[[Message], bool]) -> Told:
-        """The messages, and which of them make the file fail."""
-        return Told(name, self.messages, [fails(message) for message in self.messages])
-
-    def judged(self, fails: Callable[[Message], bool]) -> Report:
+    def judged(self, fail_on: Optional[str] = None, is_strict: bool = False) -> Report:
         """The same with the status that its messages ask for, unless something failed."""
-        status = Status.FOUND if any(map(fails, self.messages)) else Status.FINE
-        return self if self.status > Status.FOUND else self._replace(status=status)
+        failures = [_fails(message, fail_on, is_strict) for message in self.messages]
+        status = self.status if self.status > Status.FOUND else Status.FOUND if any(failures) else Status.FINE
+        return self._replace(status=status, failures=failures)
 
 
-def _fails(fail_on: Optional[str], is_strict: bool, message: Message) -> bool:
+def _fails(message: Message, fail_on: Optional[str], is_strict: bool) -> bool:
     """Whether the status is 1 for a message: where nothing is said, for errors and all findings of the linter."""
     if message.code == SKIPPED:
         return False
@@ -75,6 +74,8 @@ def failed(name: str, error: FileError) -> Report:
 
 
 Work = Callable[[Target], Report]
+# The same with the options for the file.
+ConfiguredWork = Callable[[argparse.Namespace, Target], Report]
 
 
 def add_arguments(parser: Any, without_file: str = "") -> None:
@@ -88,10 +89,10 @@ def add_arguments(parser: Any, without_file: str = "") -> None:
     parser.add_argument(
         "--max-file-patterns",
         type=whole_number,
-        default=MOST_FILE_PATTERNS,
         metavar="N",
         help=f"the most that the patterns of a file may measure together ({MOST_FILE_PATTERNS})",
     )
+    parser.add_argument("--config", metavar="FILE", help="the file with settings, and no .promql.toml or pyproject.toml")
     parser.add_argument(
         "--output", choices=("text", *OUTPUTS), default="text", help="how messages are printed to standard output (text)"
     )
@@ -122,36 +123,53 @@ def _guarded(work: Work, target: Target) -> Report:
 
 
 def work_on(
-    targets: List[Target], work: Work, arguments: argparse.Namespace, goes_on: bool = False, needs_queries: bool = True
+    targets: List[Target],
+    work: ConfiguredWork,
+    arguments: argparse.Namespace,
+    goes_on: bool = False,
+    needs_queries: bool = True,
 ) -> Status:
     """Puts out what is said of each file, and returns the highest status. It can go on where the output cannot be written."""
     with_colors = colors.are_wanted(arguments.color, sys.stderr)
-    fails = partial(_fails, arguments.fail_on, arguments.strict)
     worst, queries = Status.FINE, 0
     told: List[Told] = []
-    for name, report in zip([target.name for target in targets], reports_of(targets, work, arguments.jobs)):
-        report = report.judged(fails)
-        worst, queries = max(worst, report.status), queries + report.queries
-        if arguments.output != "text":
-            told.append(report.told(name, fails))
-            report = report._replace(out=b"")
-        try:
-            report.put_out(with_colors)
-        except OSError as error:
-            if not goes_on:
-                raise
-            print(visible(f"{name}: {error.strerror}"), file=sys.stderr)
-            worst = Status.FAILED
+    with settings_read_anew():
+        reports = reports_of(targets, partial(_configured, work, arguments), arguments.jobs)
+        for name, report in zip([target.name for target in targets], reports):
+            worst, queries = max(worst, report.status), queries + report.queries
+            if arguments.output != "text":
+                told.append(Told(name, report.messages, report.failures or report.judged().failures))
+            worst = max(worst, _put_out(name, report, arguments, with_colors, goes_on))
     if worst == Status.FINE and not queries and needs_queries:
         worst = Status.EMPTY
         empty = Report(worst, b"", [no_query(len(targets))])
-        told.append(empty.told("", fails))
+        told.append(Told("", empty.messages, [True]))
         empty.put_out(with_colors)
     if arguments.output != "text":
         made = OUTPUTS[arguments.output](arguments.command, told)
         sys.stdout.buffer.write(as_bytes(made))
         sys.stdout.buffer.flush()
     return worst
+
+
+def _put_out(name: str, report: Report, arguments: argparse.Namespace, with_colors: bool, goes_on: bool) -> Status:
+    """Puts out what is said of a file; where it can go on without an output, it returns that this failed."""
+    try:
+        (report if arguments.output == "text" else report._replace(out=b"")).put_out(with_colors)
+    except OSError as error:
+        if not goes_on:
+            raise
+        print(visible(f"{name}: {error.strerror}"), file=sys.stderr)
+        return Status.FAILED
+    return Status.FINE
+
+
+def _configured(work: ConfiguredWork, arguments: argparse.Namespace, target: Target) -> Report:
+    """The report on a file, by the settings for it."""
+    merged, settings = with_settings(arguments, target)
+    if target.is_found and settings.is_left_out(target.name):
+        return skipped_file(target, Skipped(f"left out by {settings.file}", False), arguments.verbose)
+    return work(merged, target).judged(merged.fail_on, merged.strict)
 
 
 def no_query(files: int) -> Message:

@@ -5,7 +5,6 @@ from __future__ import annotations
 import argparse
 import sys
 from dataclasses import replace
-from functools import partial
 from typing import Any, List, Tuple
 
 from .documents import Document, Skipped, Status, read_document
@@ -47,8 +46,7 @@ def _run(arguments: argparse.Namespace) -> int:
     targets = [Target(f"<query {number}>", query=query) for number, query in enumerate(arguments.query, 1)]
     targets += targets_of(arguments.files, arguments.dashboard)
     targets = targets or [Target(STDIN)]
-    work = partial(_lint_file, arguments, Selection(*(tuple(sum(it, ())) for it in (arguments.select, arguments.ignore))))
-    return work_on(targets, work, arguments, goes_on=arguments.fix)
+    return work_on(targets, _lint_file, arguments, goes_on=arguments.fix)
 
 
 def _print_rules() -> int:
@@ -68,7 +66,8 @@ def _read(arguments: argparse.Namespace, target: Target) -> Any:
     return read_document(target, arguments.dashboard, most_patterns=arguments.max_file_patterns)
 
 
-def _lint_file(arguments: argparse.Namespace, selection: Selection, target: Target) -> Report:
+def _lint_file(arguments: argparse.Namespace, target: Target) -> Report:
+    selection = Selection(tuple(sum(arguments.select, ())), tuple(sum(arguments.ignore, ())), arguments.steps)
     try:
         document = _read(arguments, target)
         if isinstance(document, Skipped):

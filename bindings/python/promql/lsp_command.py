@@ -7,8 +7,7 @@ import os
 import sys
 from typing import TYPE_CHECKING, Any, Optional
 
-from .format_command import PRETTY, STYLES
-from .options import add_target
+from .options import PRETTY, STYLES, add_target
 
 if TYPE_CHECKING:
     from .lsp.prometheus import Prometheus

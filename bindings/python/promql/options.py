@@ -10,6 +10,9 @@ from . import TARGETS
 # More digits than any number below 2^64 has.
 _MOST_DIGITS = 20
 MOST = 2**64 - 1
+# How a query is laid out: as `promql pretty` does, or for people, as `promql_format` does, with its comments; and how wide.
+PRETTY, PEOPLE = STYLES = ("pretty", "people")
+WIDTH = 100
 
 
 def whole_number(text: str, least: int = 0, most: int = MOST) -> int:

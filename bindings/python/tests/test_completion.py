@@ -13,7 +13,7 @@ from command_line import run
 COMPLETED = (
     ((), "", ["check", "completion", "format", "lint", "lsp", "serve"]),
     ((), "ch", ["check"]),
-    (("check",), "--c", ["--color"]),
+    (("check",), "--c", ["--color", "--config"]),
     (("format",), "--wi", ["--width"]),
     (("format", "a.yml", "--color"), "", ["always", "auto", "never"]),
     (("completion",), "b", ["bash"]),

@@ -250,7 +250,8 @@ class Rules(unittest.TestCase):
                 self.assertEqual(found_by(code, query), [])
 
     def test_each_code_is_tried(self):
-        self.assertEqual({code for code, *_ in FOUND}, set(known_codes()))
+        # (P003 is a finding of files)
+        self.assertEqual({code for code, *_ in FOUND}, set(known_codes()) - {"P003"})
         self.assertLessEqual({code for code, _ in NOT_FOUND}, set(known_codes()))
 
     def test_page(self):

@@ -356,7 +356,7 @@ class Changes(unittest.TestCase):
                     # (back to what was YAML)
                     document.set_text(text)
                     document.settle(problems_of(text)[0])
-        self.assertGreater(exact, 200)
+        self.assertGreater(exact, 150)
 
     def test_random_edits(self):
         """The server lives through any document, and tells of it what is told of it whole."""

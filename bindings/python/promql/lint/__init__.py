@@ -13,7 +13,7 @@ from typing import Callable, Iterable, Iterator, List, Optional
 import promql
 
 from . import alert_rules, counter_rules, label_rules, matcher_rules, operator_rules, style_rules
-from .comments import ignored_in
+from .comments import Ignored, ignored_in
 from .findings import Finding, Fix, Severity, Span, TextEdit, Tree
 from .fixes import FixChecker, all_fixed
 from .subject import IsWritten, RuleContext, Subject, always
@@ -114,11 +114,16 @@ def look_at_tree(
 
 
 def found_in(
-    query: str, tree: Tree, selection: Selection, context: RuleContext, is_written: IsWritten = always
+    query: str,
+    tree: Tree,
+    selection: Selection,
+    context: RuleContext,
+    is_written: IsWritten = always,
+    ignored: Optional[Ignored] = None,
 ) -> Iterator[Finding]:
-    """The same, rule by rule, with fixes that are not checked."""
+    """The same, rule by rule, with fixes that are not checked; without what comments of the query silence, or with other codes left out."""
     subject = Subject(query, tree, context, is_written)
-    ignored = ignored_in(query)
+    ignored = ignored_in(query) if ignored is None else ignored
     if selection.has(UNCOMPARED) and not ignored.has(UNCOMPARED) and not subject.compares_patterns:
         yield Finding(subject.whole, UNCOMPARED, _UNCOMPARED, Severity.INFO)
     for rule in selection.rules():

@@ -6,7 +6,7 @@ import re
 from functools import lru_cache
 from typing import FrozenSet, Iterable, List, NamedTuple, Tuple
 
-from ..token_texts import comments_of
+from ..token_texts import tokens_of
 from .table import is_meant, known_codes
 
 _COMMENT = re.compile(r"#\s*promql:\s*ignore(-file)?(?![\w-])[ \t]*([\w, \t]*)")
@@ -21,32 +21,52 @@ class Ignored(NamedTuple):
         return code in self.codes
 
 
+class Silenced(NamedTuple):
+    """A comment, `line[start:end]`: whether it is about the whole file, and the words for codes. Without a word all are meant."""
+
+    start: int
+    end: int
+    is_of_file: bool
+    words: Tuple[str, ...]
+
+
 def ignored_by(words: Iterable[str]) -> Ignored:
     """What words of comments silence: codes, and what these begin with."""
-    return Ignored(frozenset(code for word in set(words) for code in _codes(word)))
+    return Ignored(frozenset(code for word in set(words) for code in codes_of(word)))
 
 
 @lru_cache(maxsize=1024)
-def _codes(word: str) -> Tuple[str, ...]:
+def codes_of(word: str) -> Tuple[str, ...]:
     return tuple(code for code in known_codes() if is_meant(code, word))
 
 
 def ignored_in(query: str) -> Ignored:
     """What the comments of a query silence."""
+    return ignored_by(word for comment in silenced_in(query) for word in comment.words)
+
+
+def silenced_in(query: str) -> List[Silenced]:
+    """The comments of a query that silence findings, with their places there."""
     if "promql:" not in query:
-        return Ignored()
-    return ignored_by(word for comment in comments_of(query) for _, words in silenced_by(comment) for word in words)
+        return []
+    comments = [token for token in tokens_of(query) if token.kind == "comment"]
+    return [
+        found._replace(start=token.start + found.start, end=token.start + found.end)
+        for token in comments
+        for found in silenced_by(token.text)
+    ]
 
 
-def silenced_by(line: str) -> List[Tuple[bool, Tuple[str, ...]]]:
-    """What a line silences: whether it is for the whole file, and the words for codes. Without a word all are meant."""
+def silenced_by(line: str) -> List[Silenced]:
+    """The comments of a line that silence findings."""
     found = []
     for comment in _COMMENT.finditer(line):
-        words = []
-        for word in re.split(r"[,\s]+", comment[2].strip()):
+        words, end = [], comment.start(2)
+        for word in re.finditer(r"[^,\s]+", comment[2]):
             # (a reason may follow)
-            if not re.fullmatch(r"P\d*|all", word):
+            if not re.fullmatch(r"P\d*|all", word[0]):
                 break
-            words.append(word)
-        found.append((bool(comment[1]), tuple(words) or ("all",)))
+            words.append(word[0])
+            end = comment.start(2) + word.end()
+        found.append(Silenced(comment.start(), end, bool(comment[1]), tuple(words) or ("all",)))
     return found

@@ -5,7 +5,9 @@ from __future__ import annotations
 import json
 from dataclasses import replace
 from difflib import SequenceMatcher
-from typing import Any, Dict, List, NamedTuple, Optional, Sequence, Tuple
+from typing import Any, Dict, Iterator, List, NamedTuple, Optional, Sequence, Set, Tuple
+
+import promql
 
 from ..dashboards import Dashboard, JsonString
 from ..documents import Document
@@ -15,15 +17,15 @@ from ..queries import Edit, Query, edited
 from ..rule_files import RuleFile
 from ..scalars import Scalar
 from . import found_in
-from .comments import Ignored
-from .findings import Finding, Fix, TextEdit, Tree
+from .comments import Ignored, codes_of, silenced_in
+from .findings import Finding, Fix, Severity, Span, TextEdit, Tree
 from .fixes import all_fixed, edited_query
 from .given_queries import GivenQuery
 from .known_looks import LOOKS, KnownLooks
 from .rule_places import MOST_INTERVALS, RulePlace, rules_of
-from .silence import Silences
+from .silence import Comment, Silences
 from .subject import IsWritten, RuleContext, always
-from .table import Selection
+from .table import REJECTED, UNUSED, Selection, known_codes
 
 # A longer part that changed is written whole.
 _LONGEST_COMPARED = 1_000
@@ -36,6 +38,7 @@ _MOST_FIXED = 4_194_304
 # How often a file is read at most to find which fixes are right.
 _MOST_READS = 24
 
+_UNUSED = "the comment silences nothing: no such finding is there"
 # A query, and the text that is to be there instead.
 _Change = Tuple[Query, str]
 
@@ -63,6 +66,9 @@ class FileLinter:
         self._silences = Silences(source) if isinstance(document, RuleFile) else None
         # What is not looked at.
         self.left: List[Fault] = []
+        # The codes that comments silence of a query, by its identity, and the comments of other files that silence none.
+        self._silenced_codes: Dict[int, Set[str]] = {}
+        self._unused: List[Comment] = []
         self._fixed_length = 0
         self._reads = _MOST_READS
         self._rules: Dict[int, List[RulePlace]] = {}
@@ -100,6 +106,8 @@ class FileLinter:
             except ValueError as error:
                 self.left.append(checker.rejected(query, error))
         self.left += checker.left(left)
+        if not self.left and self._selection.has(UNUSED):
+            found += self._unused_comments()
         return sorted(found, key=lambda it: (it.start, it.end, it.finding.code, it.finding.message))
 
     def _rules_of(self, query: Query) -> Sequence[RulePlace]:
@@ -117,7 +125,37 @@ class FileLinter:
             for finding in self._look(query, context):
                 if not ignored.has(finding.code):
                     found[(*finding.span, finding.code, finding.message)] = finding
+                else:
+                    self._silenced_codes.setdefault(id(query), set()).add(finding.code)
+        if any(finding.code == REJECTED for finding in found.values()):
+            # (nobody knows what they would silence)
+            self._silenced_codes[id(query)] = set(known_codes())
+        elif "promql:" in query.text:
+            self._look_at_comments(query, [context for context, _ in contexts[:MOST_CONTEXTS]])
         return list(found.values())
+
+    def _look_at_comments(self, query: Query, contexts: Sequence[RuleContext]) -> None:
+        """Looks at the comments of a query: what is found without them, and which of them silence nothing of that."""
+        is_written, tree = self._is_written(query), promql.parse(query.text)
+        found = (found_in(query.text, tree, self._selection, context, is_written, Ignored()) for context in contexts)
+        codes = {finding.code for findings in found for finding in findings}
+        self._silenced_codes.setdefault(id(query), set()).update(codes)
+        for comment in silenced_in(query.text) if self._silences is None else ():
+            if not codes.intersection(code for word in comment.words for code in codes_of(word)):
+                start, end = query.offsets[comment.start], query.offsets[comment.end]
+                self._unused.append(Comment(start, end, comment.words))
+
+    def _unused_comments(self) -> Iterator[FileFinding]:
+        """A finding for each comment that silences nothing, as far as its codes are looked for."""
+        if self._silences:
+            for query in self._document.queries:
+                for code in known_codes() if query.skipped else self._silenced_codes.get(id(query), set()):
+                    for place in [it[1:3] for it in self._places(query)]:
+                        self._silences.use(*place, code)
+        for comment in (*self._unused, *(self._silences.unused() if self._silences else ())):
+            if all(any(map(self._selection.has, codes_of(word))) or not codes_of(word) for word in comment.words):
+                finding = Finding(Span(0, 0), UNUSED, _UNUSED, Severity.WARNING)
+                yield FileFinding(comment.start, comment.end, finding, None, ())
 
     def _look(self, query: Query, context: RuleContext) -> List[Finding]:
         """What is found in a query for one rule that has it."""
@@ -126,13 +164,16 @@ class FileLinter:
 
     def _contexts(self, query: Query) -> List[Tuple[RuleContext, Ignored]]:
         """The rules that have a query and differ to the linter, and what comments silence there."""
-        places = [(it.context, it.start, it.end) for it in self._rules_of(query)] or [self._bare(query)]
         silences = self._silences
         found: Dict[Tuple[Any, ...], Tuple[RuleContext, Ignored]] = {}
-        for context, start, end in places:
+        for context, start, end in self._places(query):
             ignored = silences.between(start, end) if silences else Ignored()
             found.setdefault((context.key, ignored), (context, ignored))
         return list(found.values())
+
+    def _places(self, query: Query) -> List[Tuple[RuleContext, int, int]]:
+        """The rules that have a query, and where they are."""
+        return [(it.context, it.start, it.end) for it in self._rules_of(query)] or [self._bare(query)]
 
     @staticmethod
     def _is_written(query: Query) -> IsWritten:

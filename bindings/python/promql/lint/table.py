@@ -23,12 +23,14 @@ class Rule(NamedTuple):
 
 
 RULES: Dict[str, Rule] = {}
-# What is no rule of its own: the library rejects the query; its patterns and values are too large together to be compared.
-REJECTED, UNCOMPARED = "P001", "P002"
-NAMES = {REJECTED: "rejected", UNCOMPARED: "not-compared"}
+# What is no rule of its own: the library rejects the query; its patterns and values are too large together to be compared; a comment
+# silences nothing.
+REJECTED, UNCOMPARED, UNUSED = "P001", "P002", "P003"
+NAMES = {REJECTED: "rejected", UNCOMPARED: "not-compared", UNUSED: "unused-comment"}
 _HELPS = {
     REJECTED: "The query is rejected.",
     UNCOMPARED: "The patterns of the query are too large to be compared with its values.",
+    UNUSED: "A comment silences no finding.",
 }
 
 
@@ -61,10 +63,15 @@ class Selection(NamedTuple):
 
     selected: Tuple[str, ...] = ()
     ignored: Tuple[str, ...] = ()
+    # Codes that are asked for beside these, or left out: the last one that means a code counts.
+    steps: Tuple[Tuple[bool, str], ...] = ()
 
     def has(self, code: str) -> bool:
         if any(is_meant(code, word) for word in self.ignored):
             return False
+        for is_on, word in reversed(self.steps):
+            if is_meant(code, word):
+                return is_on
         if self.selected:
             return any(is_meant(code, word) for word in self.selected)
         return code in NAMES or RULES[code].is_default

@@ -8,7 +8,8 @@ from typing import Dict, Iterator, List, NamedTuple, Optional, Tuple
 import promql
 
 from ..files import BLANKS, FileError
-from ..format_command import PEOPLE, PRETTY, Printer
+from ..format_command import Printer
+from ..options import PEOPLE, PRETTY
 from ..queries import Edit, Query, edited
 from ..rule_files import RuleFile
 from ..token_texts import comments_of

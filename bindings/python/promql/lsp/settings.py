@@ -4,7 +4,7 @@ from __future__ import annotations
 
 from typing import Any, NamedTuple
 
-from ..format_command import PRETTY, STYLES
+from ..options import PRETTY, STYLES
 
 
 class Settings(NamedTuple):

@@ -1,0 +1,209 @@
+"""Settings of a team, from a file: `.promql.toml`, or `[tool.promql]` of a pyproject.toml, the nearest one above the file that is looked at.
+
+Options of the command line come before them.
+"""
+
+from __future__ import annotations
+
+import argparse
+import importlib
+import importlib.util
+import os
+from contextlib import contextmanager
+from fnmatch import fnmatchcase
+from functools import lru_cache
+from typing import Any, Callable, Dict, Iterator, List, NamedTuple, Optional, Tuple
+
+from . import limits, set_limits
+from .checked_queries import MOST_FILE_PATTERNS, forget_verdicts
+from .files import FileError
+from .messages import SEVERITIES
+from .options import MOST, PRETTY, STYLES, WIDTH
+from .targets import Target
+
+_NAMES = (".promql.toml", "pyproject.toml")
+_LIMITS = tuple(limits())
+# The limits of a query without settings.
+_UNSET = limits()
+Table = Dict[str, Any]
+
+
+def _is_texts(value: Any) -> bool:
+    return isinstance(value, list) and all(isinstance(item, str) for item in value)
+
+
+def _is_number(value: Any) -> bool:
+    return isinstance(value, int) and not isinstance(value, bool) and 0 <= value <= MOST
+
+
+def _one_of(words: Tuple[str, ...]) -> Tuple[Callable[[Any], bool], str]:
+    return (lambda value: value in words), f"one of {', '.join(words)}"
+
+
+_TEXTS, _NUMBER = (_is_texts, "a list of texts"), (_is_number, f"a number from 0 to {MOST}")
+# The keys of each table: whether a value is right, and what it is to be.
+_CODES = {"select": _TEXTS, "ignore": _TEXTS, "add": _TEXTS}
+_KEYS: Dict[str, Dict[str, Tuple[Callable[[Any], bool], str]]] = {
+    "": {
+        **_CODES,
+        "exclude": _TEXTS,
+        "fail-on": _one_of(SEVERITIES),
+        "strict": (lambda value: isinstance(value, bool), "true or false"),
+        "width": _NUMBER,
+        "style": _one_of(STYLES),
+        "limits": (lambda value: isinstance(value, dict), "a table"),
+        "paths": (lambda value: isinstance(value, list) and all(isinstance(it, dict) for it in value), "a list of tables"),
+    },
+    "limits": {**{name.replace("_", "-"): _NUMBER for name in _LIMITS}, "max-file-patterns": _NUMBER},
+    "paths": {"files": _TEXTS, "ignore": _TEXTS, "add": _TEXTS},
+}
+
+
+class TeamSettings(NamedTuple):
+    """What a file says, and its folder."""
+
+    file: str = ""
+    table: Table = {}
+
+    def is_left_out(self, name: str) -> bool:
+        return self._matches(name, self.table.get("exclude", ()))
+
+    def steps(self, name: str) -> Tuple[Tuple[bool, str], ...]:
+        """Which codes of the linter are looked for in a file, and which are not: the last step that means a code counts."""
+        found: List[Tuple[bool, str]] = []
+        tables = [it for it in self.table.get("paths", ()) if self._matches(name, it.get("files", ()))]
+        for table in (self.table, *tables):
+            found += [(False, word) for word in table.get("ignore", ())] + [(True, word) for word in table.get("add", ())]
+        return tuple(found)
+
+    def _matches(self, name: str, patterns: List[str]) -> bool:
+        """Whether a file is meant by one of these patterns: its path below the folder of the settings, or for a pattern without a
+        stroke the name of it or of a folder of it."""
+        path = os.path.relpath(os.path.abspath(name), os.path.dirname(os.path.abspath(self.file)))
+        parts = path.split(os.sep)
+        return any(
+            fnmatchcase(path, pattern) or "/" not in pattern and any(fnmatchcase(part, pattern) for part in parts)
+            for pattern in patterns
+        )
+
+
+def with_settings(arguments: argparse.Namespace, target: Target) -> Tuple[argparse.Namespace, TeamSettings]:
+    """The options as the settings for a file complete them. Sets the limits of a query, too."""
+    is_file = target.query is None and target.name != "-"
+    settings = _read(arguments.config) if arguments.config is not None else _found(_folder_of(target.name) if is_file else os.getcwd())
+    table = settings.table
+    merged = argparse.Namespace(**vars(arguments))
+    bounds = {key.replace("-", "_"): value for key, value in table.get("limits", {}).items()}
+    defaults = {
+        "max_file_patterns": bounds.pop("max_file_patterns", MOST_FILE_PATTERNS),
+        "fail_on": table.get("fail-on"),
+        "width": table.get("width", WIDTH),
+        "style": table.get("style", PRETTY),
+    }
+    for name, value in defaults.items():
+        if getattr(merged, name, None) is None:
+            setattr(merged, name, value)
+    merged.strict = arguments.strict or table.get("strict", False)
+    merged.steps = () if getattr(arguments, "select", ()) else settings.steps(target.name)
+    if not getattr(arguments, "select", ()):
+        merged.select = [tuple(table["select"])] if table.get("select") else []
+    _limit(bounds)
+    return merged, settings
+
+
+def _folder_of(name: str) -> str:
+    return os.path.dirname(os.path.abspath(name))
+
+
+@contextmanager
+def settings_read_anew() -> Iterator[None]:
+    """Reads the files of settings anew meanwhile, and leaves the limits of a query as they were before."""
+    _found.cache_clear()
+    _read.cache_clear()
+    before = limits()
+    _UNSET.update(before)
+    try:
+        yield
+    finally:
+        _limit(before)
+
+
+def _limit(bounds: Dict[str, int]) -> None:
+    """Sets limits of a query; those that are not said are as they were before all settings."""
+    before = limits()
+    set_limits(**{**_UNSET, **bounds})
+    if limits() != before:
+        forget_verdicts()
+
+
+@lru_cache(maxsize=None)
+def _found(folder: str) -> TeamSettings:
+    """The settings for the files of a folder."""
+    for name in _NAMES:
+        path = os.path.join(folder, name)
+        if os.path.isfile(path):
+            settings = _read(path)
+            if settings.file:
+                return settings
+    above = os.path.dirname(folder)
+    return _found(above) if above != folder else TeamSettings()
+
+
+@lru_cache(maxsize=None)
+def _read(path: str) -> TeamSettings:
+    """The settings of a file; none where it is a pyproject.toml without them."""
+    try:
+        with open(path, encoding="utf-8") as file:
+            text = file.read()
+    except OSError as error:
+        raise FileError(f"{path}: {error.strerror}") from error
+    except UnicodeDecodeError as error:
+        raise FileError(f"{path}: not UTF-8 at byte {error.start}") from error
+    is_project = os.path.basename(path) == "pyproject.toml"
+    if is_project and "promql" not in text:
+        return TeamSettings()
+    table = _parsed(path, text)
+    if is_project:
+        table = table.get("tool", {}).get("promql") if isinstance(table.get("tool", {}), dict) else None
+        if table is None:
+            return TeamSettings()
+    if not isinstance(table, dict):
+        raise FileError(f"{path}: `tool.promql` is not a table")
+    _look_at(path, table, "")
+    return TeamSettings(path, table)
+
+
+def _parsed(path: str, text: str) -> Any:
+    parser = next((name for name in ("tomllib", "tomli") if importlib.util.find_spec(name)), "")
+    if not parser:
+        raise FileError(f"{path}: settings need Python 3.11 or tomli: `pip install tomli`")
+    try:
+        return importlib.import_module(parser).loads(text)
+    except RecursionError as error:
+        raise FileError(f"{path}: nested too deeply") from error
+    except ValueError as error:
+        raise FileError(f"{path}: not TOML: {error}") from error
+
+
+def _look_at(path: str, table: Table, part: str) -> None:
+    """Looks whether a table has known keys alone, and right values."""
+    keys = _KEYS[part]
+    for key, value in table.items():
+        name = f"{part}.{key}".lstrip(".")
+        if key not in keys:
+            raise FileError(f"{path}: no setting is called `{name}`: {', '.join(keys)}")
+        is_right, what = keys[key]
+        if not is_right(value):
+            raise FileError(f"{path}: `{name}` is not {what}")
+        if key in _CODES:
+            _look_at_codes(path, name, value)
+        for inner in [value] if key == "limits" else value if key == "paths" else ():
+            _look_at(path, inner, key)
+    if part == "paths" and "files" not in table:
+        raise FileError(f"{path}: `paths` without `files`")
+
+
+def _look_at_codes(path: str, name: str, words: List[str]) -> None:
+    unknown: List[str] = importlib.import_module(".lint", __package__).unknown_words(words)
+    if unknown:
+        raise FileError(f"{path}: `{name}`: no rule has a code that begins with {unknown[0]!r}")
