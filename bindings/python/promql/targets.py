@@ -42,6 +42,11 @@ def targets_of(names: Sequence[str], is_dashboard: bool) -> List[Target]:
     return [target for name in names for target in (_in_folder(name, ends) if os.path.isdir(name) else [Target(name)])]
 
 
+def is_read(name: str) -> bool:
+    """Whether a file of a folder is read, by its name."""
+    return name.endswith(_READ)
+
+
 def _in_folder(folder: str, ends: Sequence[str]) -> Iterator[Target]:
     errors: List[OSError] = []
     paths: List[str] = []

@@ -9,6 +9,7 @@ import argparse
 import importlib
 import importlib.util
 import os
+import re
 from contextlib import contextmanager
 from fnmatch import fnmatchcase
 from functools import lru_cache
@@ -22,6 +23,8 @@ from .options import MOST, PRETTY, STYLES, WIDTH
 from .targets import Target
 
 _NAMES = (".promql.toml", "pyproject.toml")
+# What a pyproject.toml with settings has; others need no reader of TOML.
+_SECTION = re.compile(r"^\s*\[\s*tool\s*(?:\]|\.\s*[\"']?promql\b)", re.M)
 _LIMITS = tuple(limits())
 # The limits of a query without settings.
 _UNSET = limits()
@@ -160,7 +163,7 @@ def _read(path: str) -> TeamSettings:
     except UnicodeDecodeError as error:
         raise FileError(f"{path}: not UTF-8 at byte {error.start}") from error
     is_project = os.path.basename(path) == "pyproject.toml"
-    if is_project and "promql" not in text:
+    if is_project and not _SECTION.search(text):
         return TeamSettings()
     table = _parsed(path, text)
     if is_project:

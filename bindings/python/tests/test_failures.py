@@ -209,11 +209,14 @@ class Options(unittest.TestCase):
         """The hooks end their options, and a name of a file is none where a configuration does not."""
         text = (ROOT / ".pre-commit-hooks.yaml").read_text()
         self.assertEqual(text.count("entry:"), text.count("args: [--]\n"))
-        hook = ROOT / "bindings/python/hook.py"
+        hook = "import sys, promql.hook; sys.exit(promql.hook.program())"
         with TemporaryDirectory() as folder:
             Path(folder, "-qup.yml").write_text(GOOD)
             for ends in ([], ["--"]):
-                ran = subprocess.run([sys.executable, hook, "check", *ends, "-qup.yml"], cwd=folder, capture_output=True, text=True, check=False)
+                ran = subprocess.run(
+                    [sys.executable, "-c", hook, "check", *ends, "-qup.yml"],
+                    cwd=folder, env=environment(), capture_output=True, text=True, check=False,
+                )  # fmt: skip
                 self.assertEqual((ran.returncode, ran.stdout), (0, "./-qup.yml: 1 rule, no errors\n"))
 
     def test_numbers(self):
