@@ -26,7 +26,7 @@ _VARIABLES = (
 )
 # What Grafana's data source of Prometheus reads of a variable: the query is in the first parentheses.
 _CALL = re.compile(r"\s*(label_values|label_names|query_result|metrics)\s*\(", re.ASCII)
-_LABEL_VALUES = re.compile(r"\s*label_values\(\s*(?:(.+),)?[^(),=]*\)\s*", re.ASCII | re.DOTALL)
+_LABEL_VALUES = re.compile(r"\s*label_values\((?:(.+),)?[^(),=]*\)\s*", re.ASCII | re.DOTALL)
 _LABEL_NAMES = re.compile(r"\s*label_names\((.*)\)\s*", re.ASCII | re.DOTALL)
 _RESULT = re.compile(r"\s*query_result\((.+)\)\s*", re.ASCII | re.DOTALL)
 _METRICS = re.compile(r"\s*metrics\(.*\)\s*", re.ASCII | re.DOTALL)
@@ -65,9 +65,12 @@ def is_of_prometheus(text: str) -> bool:
 
 def source_of(document: Any, path: JsonPath) -> str:
     """The type of the data source of the query in this place, as the innermost object tells that has one; or nothing."""
-    for length in range(len(path) - 1, 0, -1):
-        value = value_at(document, path[:length])
-        for kind in _kinds(path[length - 1], value) if isinstance(value, dict) else ():
+    around = []
+    for step in path[:-1]:
+        document = value_at(document, (step,))
+        around.append((step, document))
+    for key, value in reversed(around):
+        for kind in _kinds(key, value) if isinstance(value, dict) else ():
             if isinstance(kind, str) and kind not in _NO_SOURCE:
                 return kind
     return ""

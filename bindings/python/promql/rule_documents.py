@@ -118,7 +118,7 @@ def _document_of(node: Node, mappings: Mappings) -> RuleDocument:
         return RuleDocument(Kind.TESTS, node, True)
     note = "this is no rule file: it has no `groups`"
     for key, value in mappings.entries(node):
-        if key.is_scalar() and get_close_matches(str(key.value), ("groups",), cutoff=0.8) and _are_groups(value, mappings):
+        if key.is_scalar() and _are_groups(value, mappings) and get_close_matches(str(key.value), ("groups",), cutoff=0.8):
             return RuleDocument(Kind.WRONG, key, True, f"{note}, but `{key.value}`", name=key)
     return RuleDocument(Kind.WRONG, node, True, note)
 
@@ -139,7 +139,11 @@ def _inner_documents(root: Node, mappings: Mappings) -> Iterator[RuleDocument]:
         node = todo.pop()
         key = next((key for key in ("groups", "rules") if _has_rules(node, key, mappings)), "")
         if key:
-            yield RuleDocument(_kind_of_groups(node, key, mappings), node, False, key=key)
+            # (an alias has the same list again)
+            items = id(mappings.value(node, key))
+            if items not in seen:
+                seen.add(items)
+                yield RuleDocument(_kind_of_groups(node, key, mappings), node, False, key=key)
             continue
         if node.kind == "mapping":
             yield from _in_mapping(node, mappings)
@@ -177,7 +181,10 @@ def _has_rules(mapping: Node, key: str, mappings: Mappings) -> bool:
 
 
 def _are_groups(items: Node, mappings: Mappings) -> bool:
-    return items.kind == "sequence" and any(_has_rules(item, "rules", mappings) for item in items.value[:_MOST_ITEMS])
+    if items.kind != "sequence":
+        return False
+    first = items.value[:_MOST_ITEMS]
+    return mappings.answer("groups", items, lambda: any(_has_rules(item, "rules", mappings) for item in first))
 
 
 def _kind_of_groups(owner: Node, key: str, mappings: Mappings) -> Kind:
@@ -199,7 +206,8 @@ def _has_items(mapping: Node, key: str, fields: Sequence[str], mappings: Mapping
     items = mappings.value(mapping, key)
     if not items or items.kind != "sequence":
         return False
-    return any(mappings.entry(item, field) for item in items.value[:_MOST_ITEMS] for field in fields)
+    first = items.value[:_MOST_ITEMS]
+    return mappings.answer("+".join(fields), items, lambda: any(mappings.entry(item, it) for item in first for it in fields))
 
 
 def _text(mapping: Node, key: str, mappings: Mappings) -> str:

@@ -2,7 +2,7 @@
 
 from __future__ import annotations
 
-from typing import Dict, Iterator, List, NamedTuple, Optional, Sequence, Set, Tuple
+from typing import Callable, Dict, Iterator, List, NamedTuple, Optional, Sequence, Set, Tuple
 
 from .files import FileError
 from .yaml_nodes import Node
@@ -30,6 +30,7 @@ class Mappings:
         self._read: Dict[int, _Mapping] = {}
         self._merged_entries: Dict[Tuple[int, str], Optional[Entry]] = {}
         self._sought: Set[Tuple[int, str]] = set()
+        self._answers: Dict[Tuple[str, int], bool] = {}
         self._walked = 0
 
     def entry(self, mapping: Node, key: str) -> Optional[Entry]:
@@ -48,6 +49,13 @@ class Mappings:
             self._merged_entries[place] = next(filter(None, (self.entry(part, key) for part in self.merged(mapping))), None)
             self._sought.remove(place)
         return self._merged_entries[place]
+
+    def answer(self, question: str, node: Node, find: Callable[[], bool]) -> bool:
+        """The answer to a question about a node, which is found once, however many aliases have the node."""
+        place = (question, id(node))
+        if place not in self._answers:
+            self._answers[place] = find()
+        return self._answers[place]
 
     def value(self, mapping: Node, key: str) -> Optional[Node]:
         entry = self.entry(mapping, key)

@@ -107,11 +107,13 @@ class Wheels(unittest.TestCase):
         self.assertEqual(metadata.get_all("License-File"), ["LICENSE", "NOTICE"])
         self.assertIn("License :: OSI Approved :: Apache Software License", metadata.get_all("Classifier"))
         needed = sorted(re.sub("[ ()\"']", "", it) for it in metadata.get_all("Requires-Dist"))
-        self.assertEqual(needed, ["PyYAML>=6.0;extra==rules", "ruamel.yaml>=0.17.21;extra==rules"])
+        wanted = ["PyYAML>=6.0;extra==rules", "ruamel.yaml>=0.17.21;extra==rules", "tomli>=2.0;python_version<3.11andextra==rules"]
+        self.assertEqual(needed, wanted)
         self.assertTrue(metadata["Project-URL"].startswith("Query language, https://"))
         self.assertEqual(metadata.get_payload().strip(), (self.package / "README.md").read_text(encoding="utf-8").strip())
         self.assertEqual((wheel["Tag"], wheel["Root-Is-Purelib"]), (TAG, "false"))
-        self.assertEqual(scripts.split(), ["[console_scripts]", "promql", "=", "promql.__main__:program"])
+        lines = ["[console_scripts]", "promql = promql.__main__:program", "promql-hook = promql.hook:program"]
+        self.assertEqual(scripts.splitlines(), lines)
 
     def test_install_and_uninstall(self):
         self.pip("install", "--no-deps", self.build())
@@ -123,6 +125,18 @@ class Wheels(unittest.TestCase):
         self.pip("install", "--no-build-isolation", "--no-deps", self.package)
         self.assertIn("Location: ", self.pip("show", "promql"))
         self.check_uninstalled()
+
+    def test_hooks(self):
+        """What pre-commit installs: the folder of the repository, and what the hooks name beside it."""
+        hooks = (ROOT / ".pre-commit-hooks.yaml").read_text(encoding="utf-8")
+        names = set(re.findall(r"additional_dependencies: \[\"(.*)\"\]", hooks))
+        self.assertEqual((names, hooks.count("additional_dependencies")), ({"./bindings/python[rules]"}, hooks.count("entry: promql-hook ")))
+        shutil.copy(ROOT / "pyproject.toml", self.checkout)
+        self.pip("install", "--no-build-isolation", ".", *names)
+        self.assertIn("no errors", self.run_in_venv("promql-hook", "check", BOARD))
+        rules = self.checkout / "-rules.yml"
+        rules.write_text("groups: [{name: a, rules: [{alert: B, expr: up}]}]\n", encoding="utf-8")
+        self.assertIn("./-rules.yml: 1 rule, no errors", self.run_in_venv("promql-hook", "check", "-rules.yml"))
 
     def test_editable(self):
         self.pip("install", "--no-build-isolation", "--no-deps", "--editable", self.package)

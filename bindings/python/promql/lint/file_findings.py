@@ -141,17 +141,17 @@ class FileLinter:
         codes = {finding.code for findings in found for finding in findings}
         self._silenced_codes.setdefault(id(query), set()).update(codes)
         for comment in silenced_in(query.text) if self._silences is None else ():
-            if not codes.intersection(code for word in comment.words for code in codes_of(word)):
-                start, end = query.offsets[comment.start], query.offsets[comment.end]
-                self._unused.append(Comment(start, end, comment.words))
+            placed = Comment(query.offsets[comment.start], query.offsets[comment.end], comment.words)
+            if not placed.silences(codes):
+                self._unused.append(placed)
 
     def _unused_comments(self) -> Iterator[FileFinding]:
         """A finding for each comment that silences nothing, as far as its codes are looked for."""
         if self._silences:
             for query in self._document.queries:
-                for code in known_codes() if query.skipped else self._silenced_codes.get(id(query), set()):
-                    for place in [it[1:3] for it in self._places(query)]:
-                        self._silences.use(*place, code)
+                codes = set(known_codes()) if query.skipped else self._silenced_codes.get(id(query), set())
+                for _, start, end in self._places(query) if codes else ():
+                    self._silences.use(start, end, codes)
         for comment in (*self._unused, *(self._silences.unused() if self._silences else ())):
             if all(any(map(self._selection.has, codes_of(word))) or not codes_of(word) for word in comment.words):
                 finding = Finding(Span(0, 0), UNUSED, _UNUSED, Severity.WARNING)

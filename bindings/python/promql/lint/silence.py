@@ -4,7 +4,7 @@ from __future__ import annotations
 
 import re
 from bisect import bisect_left
-from typing import Iterator, List, Tuple
+from typing import List, Set, Tuple
 
 from ..files import Source
 from .comments import Ignored, codes_of, ignored_by, silenced_by
@@ -22,6 +22,9 @@ class Comment:
         # Whether it silences a finding.
         self.is_used = False
 
+    def silences(self, codes: Set[str]) -> bool:
+        return any(not codes.isdisjoint(codes_of(word)) for word in self.words)
+
 
 class Silences:
     """The comments of a YAML file."""
@@ -29,12 +32,15 @@ class Silences:
     def __init__(self, source: Source) -> None:
         self._lines = source.lines
         self._of_file: List[Comment] = []
+        # The codes of all findings.
+        self._found: Set[str] = set()
         # Where the lines begin that comments are about, in their order, and the comments. One that is above a rule is about two lines.
         self._abouts: List[int] = []
         self._comments: List[Comment] = []
         if "promql:" in source.text:
             self._read(source.text)
         order = sorted(range(len(self._abouts)), key=self._abouts.__getitem__)
+        self._codes_of_file = ignored_by(word for comment in self._of_file for word in comment.words).codes
         self._abouts, self._comments = [self._abouts[at] for at in order], [self._comments[at] for at in order]
 
     def _read(self, text: str) -> None:
@@ -61,19 +67,20 @@ class Silences:
 
     def between(self, start: int, end: int) -> Ignored:
         """What is silenced in the lines of this part of the file."""
-        return ignored_by(word for comment in self._about(start, end) for word in comment.words)
+        of_lines = ignored_by(word for comment in self._about(start, end) for word in comment.words)
+        return Ignored(of_lines.codes | self._codes_of_file)
 
-    def use(self, start: int, end: int, code: str) -> None:
-        """Keeps in mind that a finding of this code is silenced there."""
+    def use(self, start: int, end: int, codes: Set[str]) -> None:
+        """Keeps in mind that there are findings of these codes in this part of the file, which comments may silence."""
+        self._found |= codes
         for comment in self._about(start, end):
-            comment.is_used = comment.is_used or any(code in codes_of(word) for word in comment.words)
+            comment.is_used = comment.is_used or comment.silences(codes)
 
     def unused(self) -> List[Comment]:
         """The comments that silence no finding."""
-        found = {id(comment): comment for comment in (*self._of_file, *self._comments) if not comment.is_used}
-        return list(found.values())
-    def _about(self, start: int, end: int) -> Iterator[Comment]:
+        found = {id(comment): comment for comment in self._comments if not comment.is_used}
+        return [*found.values(), *(comment for comment in self._of_file if not comment.silences(self._found))]
+
+    def _about(self, start: int, end: int) -> List[Comment]:
         first = bisect_left(self._abouts, self._lines.begin(start))
-        last = bisect_left(self._abouts, max(end, start + 1))
-        yield from self._of_file
-        yield from self._comments[first:last]
+        return self._comments[first : bisect_left(self._abouts, max(end, start + 1))]
