@@ -30,6 +30,8 @@ _LABEL_VALUES = re.compile(r"\s*label_values\((?:(.+),)?[^(),=]*\)\s*", re.ASCII
 _LABEL_NAMES = re.compile(r"\s*label_names\((.*)\)\s*", re.ASCII | re.DOTALL)
 _RESULT = re.compile(r"\s*query_result\((.+)\)\s*", re.ASCII | re.DOTALL)
 _METRICS = re.compile(r"\s*metrics\(.*\)\s*", re.ASCII | re.DOTALL)
+# How many objects and lists around a query are asked for its source.
+_NEAR = 6
 # What is no source of data, so that those of the queries in it are asked for.
 _NO_SOURCE = ("datasource", "mixed")
 
@@ -65,8 +67,10 @@ def is_of_prometheus(text: str) -> bool:
 
 def source_of(document: Any, path: JsonPath) -> str:
     """The type of the data source of the query in this place, as the innermost object tells that has one; or nothing."""
+    near = path[:-1][-_NEAR:]
+    document = value_at(document, path[: len(path) - 1 - len(near)])
     around = []
-    for step in path[:-1]:
+    for step in near:
         document = value_at(document, (step,))
         around.append((step, document))
     for key, value in reversed(around):

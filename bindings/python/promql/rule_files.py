@@ -7,6 +7,7 @@ from __future__ import annotations
 
 from dataclasses import replace
 from functools import partial
+from itertools import islice
 from typing import Any, Callable, Dict, Iterator, List, Optional, Set, Tuple, Union
 
 from .checked_queries import QueryChecker
@@ -204,7 +205,7 @@ class _Parts:
             in_group = self._count_in_grafana_group if document.kind is Kind.GRAFANA else self._count_in_group
             is_group = document.key == "rules"
             self.rules += self._once("group", owner, in_group) if is_group else self._count_in(owner, "groups", "a group", in_group)
-        found = [node for _, node in list(self._found.values())[count:]]
+        found = [node for _, node in islice(reversed(self._found.values()), len(self._found) - count)]
         if document.kind is Kind.LOKI or document.kind is Kind.RULES and any(is_logql(node.value) for node in found):
             self._left.update({id(node): _LOKI for node in found})
             return document._replace(kind=Kind.LOKI)
