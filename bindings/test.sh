@@ -295,6 +295,9 @@ test_rule_files() {
         add "the readers of YAML for Python, by $python" unit_tests "$here/python" test_quick_yaml.py
         add "checks of rules for Python, by $python" unit_tests "$here/python" test_rule_checks.py
         add "files with rules for Python, by $python" unit_tests "$here/python" test_rule_documents.py
+        add "queries that pass unseen, by $python" unit_tests "$here/python" test_unseen.py
+        add "reports on files, by $python" unit_tests "$here/python" test_reports.py
+        add "settings of a team, by $python" unit_tests "$here/python" test_team_settings.py
         add "the linter for Python, by $python" unit_tests "$here/python" test_lint_command.py
         add "the language server with rule files, by $python" unit_tests "$here/python" test_lsp_rules.py
         add "bounds of the tools for files, by $python" unit_tests "$here/python" test_bounds.py

@@ -57,6 +57,7 @@ class RuleDocument(NamedTuple):
 
 # Objects of Kubernetes whose `spec` has groups, or may have none.
 _RULE_KINDS = ("PrometheusRule", "VMRule", "Rules", "ClusterRules", "GlobalRules")
+_NO_GROUPS = "this is no rule file: it has no `groups`"
 # How the keys of texts end that are files.
 _RULES_END, _BOARD_END = (".yml", ".yaml", ".rules", ".rule"), ("json",)
 # Of a list so many items at most tell what it is.
@@ -95,14 +96,16 @@ def documents_of(root: Node, mappings: Mappings, looks_inside: bool = True) -> I
             todo += reversed(items.value)
             continue
         document = _document_of(node, mappings)
-        inner = list(_inner_documents(node, mappings)) if looks_inside and _may_have_rules(document) else []
+        inner = list(_inner_documents(node, mappings)) if looks_inside and _may_have_rules(document, mappings) else []
         yield from inner
         if all(it.kind is Kind.UNREAD for it in inner):
             yield document
 
 
-def _may_have_rules(document: RuleDocument) -> bool:
-    """Whether rules are to be looked for in a document that is none of rules."""
+def _may_have_rules(document: RuleDocument, mappings: Mappings) -> bool:
+    """Whether rules are to be looked for in a document that has none in their place."""
+    if document.object_kind and document.kind is Kind.RULES:
+        return not mappings.entry(document.owner, "groups")
     return document.kind is Kind.OBJECT or document.kind is Kind.WRONG and document.owner.kind == "mapping"
 
 
@@ -116,11 +119,18 @@ def _document_of(node: Node, mappings: Mappings) -> RuleDocument:
         return _object_of(node, kind, version, mappings)
     if _has_items(node, "tests", _TEST_FIELDS, mappings):
         return RuleDocument(Kind.TESTS, node, True)
-    note = "this is no rule file: it has no `groups`"
+    key = _misspelled_groups(node, mappings)
+    if key:
+        return RuleDocument(Kind.WRONG, key, True, f"{_NO_GROUPS}, but `{key.value}`", name=key)
+    return RuleDocument(Kind.WRONG, node, True, _NO_GROUPS)
+
+
+def _misspelled_groups(node: Node, mappings: Mappings) -> Optional[Node]:
+    """The key of groups that is most likely meant as `groups`, where a mapping has one."""
     for key, value in mappings.entries(node):
         if key.is_scalar() and _are_groups(value, mappings) and get_close_matches(str(key.value), ("groups",), cutoff=0.8):
-            return RuleDocument(Kind.WRONG, key, True, f"{note}, but `{key.value}`", name=key)
-    return RuleDocument(Kind.WRONG, node, True, note)
+            return key
+    return None
 
 
 def _object_of(node: Node, kind: str, version: str, mappings: Mappings) -> RuleDocument:
@@ -128,6 +138,9 @@ def _object_of(node: Node, kind: str, version: str, mappings: Mappings) -> RuleD
     if spec and version.startswith("loki.") and mappings.entry(spec, "groups"):
         return RuleDocument(Kind.LOKI, spec, False)
     if spec and kind in _RULE_KINDS:
+        key = None if mappings.entry(spec, "groups") else _misspelled_groups(spec, mappings)
+        if key:
+            return RuleDocument(Kind.WRONG, key, False, f"a `{kind}` without `groups`, but with `{key.value}`", name=key)
         return RuleDocument(Kind.RULES, spec, False, object_kind=kind)
     return RuleDocument(Kind.OBJECT, node, False, f"no rules: a `{kind}` of Kubernetes")
 

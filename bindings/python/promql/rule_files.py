@@ -73,6 +73,8 @@ class RuleFile:
         self.notes = self._parts.notes
         self.unread = self._parts.unread
         self.is_known = any(is_surely_of_rules(document, self._parts.mappings) for document in self._parts.documents)
+        # (a key `groups` is one of other tools as well, but not with queries)
+        self.is_known |= "expr" in source.text and any(it.kind is Kind.RULES for it in self._parts.documents)
 
     def _take_text(self, name: str, text: Source, offsets: List[int]) -> None:
         """Reads a file that is a text of this one."""

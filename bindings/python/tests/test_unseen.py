@@ -157,6 +157,22 @@ class Folders(Unseen):
                 self.assertEqual((ran.status, ran.out), (1, f"{path}: no rules, 1 error\n"))
                 self.assertIn(f"{path}:1:1: this is no rule file: it has no `groups`, but `{key}`\n", ran.err)
 
+    def test_misspelled_parts(self):
+        """What promtool rejects for a key is an error in a folder, too."""
+        text = GROUPS.replace(BROKEN, "up")
+        self.put("fine.yml", AFTER_ALERT)
+        path = self.put("a.yml", text.replace("rules:", "rule:"))
+        ran = run("check", self.folder)
+        self.assertEqual((ran.status, "unknown field `rule`" in ran.err), (1, True))
+        head = "apiVersion: monitoring.coreos.com/v1\nkind: PrometheusRule\nspec:\n"
+        path.write_text(head + indented(text.replace("groups", "group"), 2))
+        ran = run("check", self.folder)
+        self.assertEqual((ran.status, "4:3: a `PrometheusRule` without `groups`, but with `group`\n" in ran.err), (1, True))
+        path.write_text(head + indented("rules:\n" + RULE, 2))
+        self.assertIn(UNCLOSED, run("check", self.folder).err)
+        path.write_text(head + "  {}\n")
+        self.assertEqual(run("check", self.folder).status, 0)
+
     def test_broken_json(self):
         path = self.put("a.json", '{"panels": [{"expr": "up"}')
         self.assertEqual(run("check", self.folder).status, 2)
