@@ -690,9 +690,9 @@ class Page(Folder):
         for name, text in re.findall(r"`(\w+\.yml)`:\n\n```yaml\n(.*?)^```$", page, re.M | re.S):
             self.file(text, name)
         sessions = re.findall(r"^```sh\n\$ python3 (.*?)\n(.*?)^```$", page, re.M | re.S)
-        self.assertEqual(len(sessions), 4)
+        self.assertEqual(len(sessions), 5)
         for arguments, wanted in sessions:
-            command = [sys.executable, *arguments.split()]
+            command = ["sh", "-c", f'exec "$0" {arguments}', sys.executable]
             ran = subprocess.run(command, cwd=self.folder, stdout=subprocess.PIPE, stderr=subprocess.STDOUT, check=False)
             self.assertEqual(ran.stdout.decode(), wanted)
 
