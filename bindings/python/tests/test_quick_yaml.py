@@ -6,6 +6,7 @@ import random
 import re
 import time
 import unittest
+from argparse import Namespace
 from unittest import mock
 
 import test_rule_files
@@ -119,6 +120,9 @@ def parts(source, reader):
     except FileError as error:
         return str(error)
     return found.queries, sorted(found.faults), found.rules
+
+# The options of a command with two processes.
+OPTIONS = Namespace(jobs=2, color="never", output="text", config=None, strict=False, fail_on=None, verbose=False, command="check")
 
 
 def quick_yaml_takes(text):
@@ -249,14 +253,14 @@ class Jobs(Folder):
         self.assertEqual(ran, (0, f"{path}: 1 rule, no errors\n<stdin>: 1 rule, no errors\n", ""))
 
     def test_a_process_that_ends(self):
-        def work(target):
+        def work(_, target):
             if target.name == "b":
                 os._exit(9)
             return Report(Status.FINE, f"{target.name}\n".encode(), [])
 
-        with mock.patch.object(Report, "put_out", lambda report, with_colors: said.append((report.out, *report.err))):
+        with mock.patch.object(Report, "put_out", lambda report, with_colors: said.append((report.out, *(it.text for it in report.messages)))):
             said = []
-            self.assertEqual(work_on([Target(name) for name in "abcd"], work, 2), Status.FAILED)
+            self.assertEqual(work_on([Target(name) for name in "abcd"], work, OPTIONS), Status.FAILED)
         ended = "the process that had this file ended"
         self.assertEqual(said, [(b"a\n",), (b"", f"b: {ended}"), (b"c\n",), (b"", f"d: {ended}")])
         for process in multiprocessing.active_children():
