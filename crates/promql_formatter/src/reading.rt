@@ -21,6 +21,8 @@ struct Reader {
     first_comment: usize,
     /// Whether a number that comes is a time.
     is_time: bool,
+    /// Whether an operand may end before the next token.
+    after_operand: bool,
 }
 
 /// The tokens of a text, each in its spelling, without commas that close a list.
@@ -39,6 +41,7 @@ pub(crate) fn read_pieces(
         comma: None,
         first_comment: 0,
         is_time: false,
+        after_operand: false,
     };
     let mut at: usize = 0;
     for token in Lexer::new(text) {
@@ -93,6 +96,7 @@ impl Reader {
             let end = token.start.saturating_add(token.len);
             let none = (self.first_comment, self.first_comment);
             self.comma = Some(Piece::new(kind, token.start, end, none));
+            self.after_operand = false;
             return Ok(());
         }
         if let Some(comma) = self.comma {
@@ -120,7 +124,8 @@ impl Reader {
         let end = token.start.saturating_add(token.len);
         let written = (token.start, end);
         let is_time = self.is_time;
-        self.is_time = goes_on_with_time(kind, is_time);
+        self.is_time = goes_on_with_time(kind, is_time, self.after_operand);
+        self.after_operand = ends_operand(kind);
         if self.keep_spelling || token.id == T_EOF {
             return Ok(written);
         }
@@ -134,12 +139,27 @@ impl Reader {
     }
 }
 
-/// Whether a number is a time after a token of this kind.
-fn goes_on_with_time(kind: TokenKind, is_time: bool) -> bool {
+/// Whether a number is a time after a token of this kind. A word `offset` that is not after an operand is a name.
+fn goes_on_with_time(kind: TokenKind, is_time: bool, after_operand: bool) -> bool {
     match kind {
-        TokenKind::LeftBracket | TokenKind::Colon | TokenKind::Offset => true,
+        TokenKind::LeftBracket | TokenKind::Colon => true,
+        TokenKind::Offset => after_operand,
         TokenKind::Operator(_) => is_time,
         _ => false,
+    }
+}
+
+/// Whether an operand may end with a token of this kind.
+fn ends_operand(kind: TokenKind) -> bool {
+    match kind {
+        TokenKind::RightParen
+        | TokenKind::RightBrace
+        | TokenKind::RightBracket
+        | TokenKind::Number
+        | TokenKind::Duration
+        | TokenKind::String => true,
+        TokenKind::Operator(_) => false,
+        _ => kind.may_be_name(),
     }
 }
 

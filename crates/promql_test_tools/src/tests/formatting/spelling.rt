@@ -14,6 +14,12 @@ a[60s] => a[1m] => a[60s]
 a[90m] => a[90m] => a[90m]
 a[017] => a[17s] => a[017]
 a offset -3600s => a offset -1h => a offset -3600s
+offset - 60 => offset - 60 => offset - 60
+offset > 060 => offset > 48 => offset > 060
+histogram_quantile(1, offset - 60) => histogram_quantile(1, offset - 60) => histogram_quantile(1, offset - 60)
+(offset offset 60) - offset => (offset offset 1m) - offset => (offset offset 60) - offset
+a[60s:] offset 60 => a[1m:] offset 1m => a[60s:] offset 60
+a @ 5 offset 60 => a @ 5 offset 1m => a @ 5 offset 60
 a @ 0x10 => a @ 16 => a @ 0x10
 SUM(A) BY (B) => sum by (B) (A) => SUM(A) BY (B)
 SUM AND Sum => SUM and Sum => SUM AND Sum
