@@ -270,7 +270,7 @@ static int renames(const char *query, uint32_t kind, const char *from, const cha
 
 static void test_renaming(void)
 {
-    char buffer[8] = "unknown";
+    char buffer[8] = "unknown", name[1026];
     struct promql_result result;
     CHECK(renames("sum by (job) (rate(a{job='b'}[5m])) / {__name__='a'}", PROMQL_METRIC, "a", "c", PROMQL_OK,
                   "sum by (job) (rate(c{job=\"b\"}[5m])) / {__name__=\"c\"}"));
@@ -286,6 +286,11 @@ static void test_renaming(void)
     CHECK(renames("a{b='1',c='2'}", PROMQL_LABEL, "b", "b", PROMQL_OK, "a{b=\"1\",c=\"2\"}"));
     CHECK(renames("a{b='1'}", PROMQL_LABEL, "b", "c d", PROMQL_OK, "a{\"c d\"=\"1\"}"));
     CHECK(renames("1 +", PROMQL_LABEL, "__name__", "b", PROMQL_REJECTED, "invalid promql query"));
+    memset(name, 'x', sizeof name - 1);
+    name[sizeof name - 1] = 0;
+    CHECK(renames("a", PROMQL_LABEL, "__name__", name, PROMQL_LARGE_ENFORCED,
+                  "the new name is not within the limits: query is too long: 1025 bytes, at most 1024"));
+    CHECK(renames("b", PROMQL_METRIC, "a", name + 1, PROMQL_OK, "b"));
     CHECK(renames("a", 2, "a", "b", PROMQL_UNKNOWN_MODE, "unknown mode"));
     CHECK(renames("a", PROMQL_METRIC, "\xff", "b", PROMQL_NOT_UTF8, "input is not UTF-8"));
     CHECK(renames("a", PROMQL_METRIC, "a", "\xff", PROMQL_NOT_UTF8, "input is not UTF-8"));

@@ -319,8 +319,9 @@ def enforce(query: str, matcher: str) -> str:
 def rename_metric(query: str, old: str, new: str) -> str:
     """The query on one line with the metric `old` named `new`: before braces, and in equal matchers of `__name__`.
 
-    Raises RenameError where the new name is none of a metric, such as `a.b`, and LargeEnforcedError where the renamed query is not within
-    the limits of a query. What is returned was read again, and means the renamed query (docs/guide/rewriting.md, "Renaming").
+    Raises RenameError where the new name is none of a metric, such as `a.b`, and LargeEnforcedError where it has more than 1,024 bytes or
+    the renamed query is not within the limits of a query. What is returned was read again, and means the renamed query
+    (docs/guide/rewriting.md, "Renaming").
     """
     return _text(query, _caller.rename(query, Named.METRIC, old, new))
 

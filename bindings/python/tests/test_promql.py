@@ -136,6 +136,35 @@ class Texts(unittest.TestCase):
         finally:
             promql.set_target("prometheus-3")
 
+    def test_differences(self):
+        # (a query, the part that is read otherwise, its line, and whether a layout has what is written)
+        rows = [
+            ("1 / -0.0", "-", "1 / 0", True),
+            ("foo @ 1.0005", "@", "foo @ 1.001", True),
+            (r'foo{a="\ufffd"}', r'"\ufffd"', 'foo{a="\ufffd"}', False),
+            ("timestamp((+foo))", "timestamp", "timestamp((foo))", True),
+            ('absent(foo{a="c",a!~"b"})', "absent", 'absent(foo{a!~"b",a="c"})', False),
+        ]
+        for query, part, line, is_kept in rows:
+            self.assertEqual(promql.canonical(query), line)
+            for call in (promql.check, lambda text: promql.enforce(text, "z='1'"), lambda text: promql.rename_label(text, "c", "d")):
+                with self.assertRaises(promql.ReadOtherwiseError) as raised:
+                    call(query)
+                self.assertEqual(query[raised.exception.start : raised.exception.end], part)
+            self.assertEqual(promql.format_query(query, keep_spelling=True), query)
+            if is_kept:
+                self.assertEqual(promql.canonical(promql.format_query(query)), line)
+            else:
+                with self.assertRaises(promql.ReadOtherwiseError):
+                    promql.format_query(query)
+
+    def test_long_new_names(self):
+        self.assertEqual(promql.rename_label("a{b='1'}", "b", "x" * 1024), 'a{' + "x" * 1024 + '="1"}')
+        for rename in (promql.rename_label, promql.rename_metric):
+            with self.assertRaises(promql.LargeEnforcedError) as raised:
+                rename("a{b='1'} + " * 400 + "a", "a", "x" * 1025)
+            self.assertEqual(str(raised.exception), "the new name is not within the limits: query is too long: 1025 bytes, at most 1024")
+
     def test_long_output(self):
         promql.set_limits(max_output=5)
         try:
