@@ -125,16 +125,6 @@ def milliseconds(number: str) -> float:
     return math.copysign(size + (abs(product) - size >= 0.5), product)
 
 
-def has_metric_offset(tokens: Tokens) -> bool:
-    """A metric called `offset` is before operators and a number, which the formatter takes for a time."""
-    for at, token in enumerate(tokens):
-        if token.kind == "keyword" and token.lower == "offset" and not ends_operand(tokens, at - 1):
-            after = next(it for it in range(at + 1, len(tokens) + 1) if it == len(tokens) or tokens[it].kind != "operator")
-            if after > at + 1 and after < len(tokens) and tokens[after].kind in ("number", "duration"):
-                return True
-    return False
-
-
 # ---- selectors that are arguments
 
 

@@ -24,10 +24,9 @@ from changed import queries_of
 import compare
 import promql
 from checks import Checks
-from classes import CLASSES, TREE_CLASSES, classes_by_tree, classes_of, has_metric_offset
+from classes import CLASSES, TREE_CLASSES, classes_by_tree, classes_of
 from examples import ALIKE, OTHER, ZEROS_ALIKE, lines_of
 from made import Maker
-from promql.token_texts import code_of
 
 # Between two samples of the store, and no whole second.
 NOW = compare.BEGIN + compare.STEP * (compare.SAMPLES - 20) + 7.321
@@ -104,10 +103,9 @@ def printed_texts(query: str) -> Dict[str, str]:
         "line": promql.canonical(query),
         "layout at width 1": promql.format(query, width=1),
         "layout at width 40": promql.format(query, width=40),
+        "formatted at width 20": promql.format_query(query, width=20),
+        "formatted at width 80": promql.format_query(query, width=80),
     }
-    if not has_metric_offset(code_of(query)):
-        made["formatted at width 20"] = promql.format_query(query, width=20)
-        made["formatted at width 80"] = promql.format_query(query, width=80)
     return {text: name for name, text in reversed(made.items())}
 
 
