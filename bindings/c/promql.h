@@ -18,7 +18,7 @@
  * without glibc, where /proc is not mounted (for the first thread alone), and on a stack that is not the thread's own, such as a
  * coroutine's. There the caller sees to as many bytes.
  *
- * The caller sees to this: `buffer` and `*result` lie in nothing else that the call is given; malloc, realloc and free come
+ * The caller sees to this: `buffer` and `*result` do not overlap each other or the texts that are passed; malloc, realloc and free come
  * from one allocator; no call is made from a signal handler, or in the child of a fork of a process with threads; the limit of the
  * first thread's stack is not lowered after its first call.
  */
