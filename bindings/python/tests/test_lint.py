@@ -246,7 +246,7 @@ class Rules(unittest.TestCase):
     def test_not_found(self):
         for code, query in NOT_FOUND:
             with self.subTest(code=code, query=query):
-                promql.check(query)
+                promql.canonical(query)
                 self.assertEqual(found_by(code, query), [])
 
     def test_each_code_is_tried(self):
