@@ -18,7 +18,7 @@
  * without glibc, where /proc is not mounted (for the first thread alone), and on a stack that is not the thread's own, such as a
  * coroutine's. There the caller sees to as many bytes.
  *
- * The caller sees to this: `buffer` and `*result` lie in nothing else that the call is given; malloc, realloc and free come
+ * The caller sees to this: `buffer` and `*result` do not overlap each other or the texts that are passed; malloc, realloc and free come
  * from one allocator; no call is made from a signal handler, or in the child of a fork of a process with threads; the limit of the
  * first thread's stack is not lowered after its first call.
  */
@@ -53,8 +53,8 @@ enum promql_named {
 
 /* What reads a query that is sent on (docs/reference/programs.md, "Targets"). */
 enum promql_target {
-    PROMQL_PROMETHEUS_3 = 0, /* Prometheus, to which an escape of a byte past ASCII, as "\xc3", is a byte of a text */
-    PROMQL_RULES = 1         /* the rules of this library, to which it is a character */
+    PROMQL_PROMETHEUS_3 = 0, /* Prometheus, which reads some parts of queries otherwise, as -0 and "\xc3" */
+    PROMQL_RULES = 1         /* the rules of this library */
 };
 
 /* The bytes of stack that a call about a query asks for: more than any query is known to need (docs/PERFORMANCE.md, "The program").
@@ -117,8 +117,9 @@ uint32_t promql_canonical(const char *query, size_t query_length, char *buffer, 
 uint32_t promql_enforce(const char *query, size_t query_length, const char *matcher, size_t matcher_length, char *buffer,
                         size_t buffer_size, struct promql_result *result);
 
-/* Prints a query on one line with another name for a metric or a label, by `kind`, an enum promql_named: `to` in place of `from`. The text
- * is within the limits of a query; it was read again, and means the renamed query (docs/guide/rewriting.md, "Renaming"). */
+/* Prints a query on one line with another name for a metric or a label, by `kind`, an enum promql_named: `to`, of at most 1024 bytes, in
+ * place of `from`. The text is within the limits of a query; it was read again, and means the renamed query (docs/guide/rewriting.md,
+ * "Renaming"). */
 uint32_t promql_rename(const char *query, size_t query_length, uint32_t kind, const char *from, size_t from_length, const char *to,
                        size_t to_length, char *buffer, size_t buffer_size, struct promql_result *result);
 
