@@ -1,6 +1,5 @@
 pub mod AnswerIds
 pub mod Batches
-pub mod EnforceFailures
 pub mod EnforcedTrees
 pub mod JsonTexts
 pub mod LineAnswers

@@ -1,18 +1,14 @@
 -- The line of a query with a matcher in its selectors (docs/guide/rewriting.md, "Enforcing"; docs/reference/programs.md, "One query,
 -- enforced").
-use Rattle.std.specs.Prelude.{◌≡◌, ◌-◌, ◌++◌, if◌then◌else◌, List, ◌∷◌, Option, Some, None, Result, Ok, Err, codes, option_map}
-use Rattle.promql_run.specs.Arguments.{is_option}
+use Rattle.std.specs.Prelude.{◌≡◌, ◌-◌, Some, None, Result, Ok, Err}
 use Rattle.promql_text.specs.Texts.{Text}
 use Rattle.promql_ast.specs.Tree.{Tree}
 use Rattle.promql_rewrite.specs.MatcherTexts.{IsEnforcedBy, IsMatcherText, MeetsBareInfo, selector_around}
-use Rattle.promql_run.specs.Programs.{Command}
-use Rattle.promql_report.specs.LimitOptions.{command, default_limits, limits_with}
 use Rattle.promql_span.specs.QueryLimits.{IsWithin}
 use Rattle.promql_span.specs.Targets.{matcher_difference}
 use Rattle.promql_span.specs.declared.span.Span.{Span}
 use Rattle.promql_lines.specs.LinesWithin.{HasLine}
 use Rattle.promql_lines.specs.QueryErrors.{IsOver, OfTree, Then}
-use Rattle.promql_lines.specs.declared.enforce_program.TheConstants.{ENFORCE_HELP, ENFORCE_VERSION}
 use Rattle.promql_span.specs.declared.limits.Limits.{Limits}
 use Rattle.promql_lines.specs.declared.query_error.Measured.TheVariants as measured
 use Rattle.promql_lines.specs.declared.query_error.QueryError.{QueryError}
@@ -37,17 +33,3 @@ Enforces limits matcher t (Err e) = e ≡ error.Memory
 -- the line of a query's tree with the matcher in every selector; the matcher counts only where the query has a tree
 abbrev pub IsEnforcedLine : Limits → Text → Text → Result Text QueryError → Type 0
 IsEnforcedLine limits query matcher = OfTree limits query (λ t. Then (Enforces limits matcher t) (HasLine measured.EnforcedLine limits))
-
--- ---- the program
-
--- a matcher, which looks like no option, and options
-abbrev pub enforce_with : List Text → Option (Text × Limits)
-enforce_with (own ∷ word ∷ words) = if is_option word then None else option_map (λ limits. (word, limits)) (limits_with default_limits words)
-enforce_with args = None
-
-abbrev pub enforce_command : List Text → Option (Command (Text × Limits))
-enforce_command = command ENFORCE_HELP.now ENFORCE_VERSION.now enforce_with
-
--- what is written of a query: the line and a line feed
-abbrev pub IsEnforcedAnswer : Limits → Text → Text → Text → Type 0
-IsEnforcedAnswer limits matcher query answer = (line : Text) × IsEnforcedLine limits query matcher (Ok line) × (answer ≡ line ++ codes "\n")

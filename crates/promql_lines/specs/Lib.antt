@@ -1,5 +1,4 @@
 pub mod Batch
-pub mod BatchArguments
 pub mod BatchSteps
 pub mod EnforceSteps
 pub mod EnforcedLines

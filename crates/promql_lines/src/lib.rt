@@ -1,11 +1,9 @@
-//! Many queries in one run, a line each, and the line of a query with a matcher in its selectors or another name, with the programs
-//! that write them. docs/reference/programs.md has the rules.
+//! Many queries in one run, a line each, and the line of a query with a matcher in its selectors or another name.
+//! docs/reference/programs.md has the rules.
 #![tactic(auto)]
 
 pub mod answer_text;
 pub mod batch;
-pub mod batch_program;
-pub mod enforce_program;
 pub mod enforced_line;
 pub mod formatted_query;
 mod limit_checks;

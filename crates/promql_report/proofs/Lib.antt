@@ -1,5 +1,1 @@
-pub mod CheckAnswers
-mod CheckOptions
 pub mod LimitStatus
-pub mod NumberOptions
-pub mod OptionSteps

@@ -88,6 +88,19 @@ pub const TOO_MANY_LEVELS: &str =
     "more than 512 levels: put parts of a long chain in parentheses, or split the query";
 
 impl Rejection {
+    /// The rejection of a query for this reason, at this part of it.
+    pub fn new(query: &str, reason: Reason, span: Span) -> Rejection
+        ensures reason { result.reason ≡ reason }
+        ensures span { result.span ≡ span }
+        ensures location { result.location ≡ location_of query.now span.start }
+    {
+        Rejection {
+            reason,
+            span,
+            location: Location::line_column(query, span.start),
+        }
+    }
+
     /// What was found and what was expected at a syntax error (docs/reference/grammar.md, "What is expected"); `None` of any other
     /// error. `query` is the query that it is of.
     ///
@@ -138,12 +151,12 @@ pub fn read_query(
 {
     if let Err(fault) = check_limits(alloc, query, limits) {
         let span = limit_span(query, fault).ok_or(AllocError)?;
-        return Ok(Err(rejection_at(query, Reason::Limit(fault), span)));
+        return Ok(Err(Rejection::new(query, Reason::Limit(fault), span)));
     }
     match diagnose(alloc, query) {
         Ok(expr) => for_target(alloc, limits, query, expr),
         Err(Diagnosis { error, span }) => match span {
-            Some(span) => Ok(Err(rejection_at(query, Reason::Parse(error), span))),
+            Some(span) => Ok(Err(Rejection::new(query, Reason::Parse(error), span))),
             None => Err(AllocError),
         },
     }
@@ -164,7 +177,7 @@ fn for_target(
         Ok(None) => Ok(Ok(expr)),
         Ok(Some(Difference { kind, span })) => {
             drop_expr(expr);
-            Ok(Err(rejection_at(query, Reason::Otherwise(kind), span)))
+            Ok(Err(Rejection::new(query, Reason::Otherwise(kind), span)))
         }
         Err(error) => {
             drop_expr(expr);
@@ -181,18 +194,5 @@ fn limit_span(query: &str, fault: LimitFault) -> Option<Span>
         LimitFault::Memory => None,
         LimitFault::TooLong { .. } => Some(end_of_text(query)),
         LimitFault::PatternsTooLarge { place, .. } => Some(place),
-    }
-}
-
-/// The rejection of a query for this reason, at this part of it.
-fn rejection_at(query: &str, reason: Reason, span: Span) -> Rejection
-    ensures reason { result.reason ≡ reason }
-    ensures span { result.span ≡ span }
-    ensures location { result.location ≡ location_of query.now span.start }
-{
-    Rejection {
-        reason,
-        span,
-        location: Location::line_column(query, span.start),
     }
 }

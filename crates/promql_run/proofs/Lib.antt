@@ -1,4 +1,3 @@
-mod FileWords
 pub mod Indentations
 pub mod InputsRead
 pub mod JsonForms

@@ -1,10 +1,7 @@
-pub mod ArgumentWords
-pub mod Arguments
 pub mod Colors
 pub mod Ended
 pub mod Extensions
 pub mod Inputs
-pub mod ProgramArguments
 pub mod Programs
 pub mod Running
 pub mod StepErrors

@@ -5,6 +5,7 @@
 mod batch;
 mod check;
 mod failures;
+mod files;
 mod long_matchers;
 mod options;
 mod program;
@@ -12,9 +13,24 @@ mod runs;
 mod streams;
 mod trees;
 
+use promql_programs::program::OpensFiles;
 use std::alloc::{AllocError, Global};
 use std::fmt::Debug;
+use std::io;
+use std::io::ErrorKind;
 use std::process::Abort;
+
+/// No files.
+#[derive(Drop)]
+struct NoFiles;
+
+impl OpensFiles for NoFiles {
+    type File = &'static [u8];
+
+    fn open(&mut self, _alloc: Global, _name: &str) -> io::Result<&'static [u8]> {
+        Err(io::Error::from(ErrorKind::NotFound))
+    }
+}
 
 /// The value is the wanted one, at this row.
 fn check_value<T: Debug + Drop + PartialEq>(rt: &impl Abort, found: T, want: T, row: &impl Debug) {

@@ -1,10 +1,11 @@
 //! Batches over readers and writers in memory, and over some that fail.
 
 use super::streams::{FlakyReader, FlakyWriter};
-use super::{check_value, is_so, texts};
+use super::{NoFiles, check_value, is_so, texts};
 use promql_lines::batch::run_batch;
-use promql_lines::batch_program::{BATCH_HELP, BATCH_USAGE, batch_program};
 use promql_lines::settings::Settings;
+use promql_programs::program::program;
+use promql_programs::usage::BATCH_HELP;
 use promql_run::ended::Ended;
 use promql_run::format::Format;
 use promql_run::run::RunError;
@@ -123,7 +124,15 @@ fn check_args(
     let mut reader = Ended::new(input);
     let mut writer = Ended::new(Vec::new(alloc));
     let mut errors = Ended::new(Vec::new(alloc));
-    let status = batch_program(alloc, args, &mut reader, &mut writer, &mut errors);
+    let status = program(
+        alloc,
+        false,
+        args,
+        &mut NoFiles,
+        &mut reader,
+        &mut writer,
+        &mut errors,
+    );
     assert_eq!(rt; status, want.0);
     assert!(rt; writer.inner().as_slice() == want.1.as_bytes());
     assert!(rt; errors.inner().as_slice() == want.2.as_bytes());
@@ -149,21 +158,29 @@ fn statuses_of_batches(rt: HostRuntime) {
     check_program(
         &rt,
         alloc,
-        &["", "line"],
+        &["", "batch", "line"],
         b"\"1\"\n",
         (0, "{\"ok\":\"1\"}\n", ""),
     );
     check_program(
         &rt,
         alloc,
-        &["", "json"],
+        &["", "batch", "json"],
         b"1",
         (4, "{\"code\":7,\"error\":\"line is not a request\"}\n", ""),
     );
     check_program(
         &rt,
         alloc,
-        &["", "line", "--max-patterns", "9", "--max-len", "10"],
+        &[
+            "",
+            "batch",
+            "line",
+            "--max-patterns",
+            "9",
+            "--max-len",
+            "10",
+        ],
         b"\"{a=~'bcd'}\"\n\"{a=~'bcde'}\"\n\"foo + bar+a\"\n",
         (
             4,
@@ -174,7 +191,7 @@ fn statuses_of_batches(rt: HostRuntime) {
     check_program(
         &rt,
         alloc,
-        &["", "line", "--max-patterns", "9"],
+        &["", "batch", "line", "--max-patterns", "9"],
         b"\"{a=~'bcde'}\"\n",
         (
             4,
@@ -182,13 +199,18 @@ fn statuses_of_batches(rt: HostRuntime) {
             "",
         ),
     );
-    check_program(&rt, alloc, &["", "--help"], b"\"1\"", (0, BATCH_HELP, ""));
-    check_program(&rt, alloc, &["", "lines"], b"\"1\"", (64, "", BATCH_USAGE));
     check_program(
         &rt,
         alloc,
-        &["", "line", "line"],
+        &["", "batch", "--help"],
         b"\"1\"",
-        (64, "", BATCH_USAGE),
+        (0, BATCH_HELP, ""),
+    );
+    check_program(
+        &rt,
+        alloc,
+        &["", "batch", "line", "lines"],
+        b"\"1\"",
+        (2, "", "lines: entity not found\n"),
     );
 }

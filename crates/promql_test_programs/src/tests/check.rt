@@ -1,10 +1,13 @@
-//! The program that checks a query, over its arguments, its input and its outputs.
+//! The subcommand `check`, over its arguments, its input and its outputs.
 
 use super::streams::{FlakyReader, FlakyWriter};
-use super::{holds, texts};
-use promql_report::check::{CHECK_HELP, CHECK_USAGE, check_program};
+use super::{NoFiles, holds, texts};
+use promql_programs::program::program;
+use promql_programs::usage::{CHECK_HELP, CHECK_USAGE};
 use promql_run::ended::Ended;
 use std::alloc::{AllocError, Global};
+use std::io;
+use std::io::BufReader;
 use std::process::Abort;
 
 /// Arguments, input, status, standard output, standard error.
@@ -18,31 +21,31 @@ type Row = (
 
 /// Queries that are accepted, and ones that are not.
 const QUERIES: [Row; 6] = [
-    (&["promql_check"], b"1 + (foo - 2)", 0, "", ""),
-    (&[""], b"foo\n", 0, "", ""),
+    (&["promql", "check"], b"1 + (foo - 2)", 0, "", ""),
+    (&["", "check"], b"foo\n", 0, "", ""),
     (
-        &[""],
+        &["", "check"],
         b"sum(rate(foo[5m]) by (job)\n",
         4,
         "",
         "1:19: unclosed left parenthesis\nsum(rate(foo[5m]) by (job)\n                  ^~\n",
     ),
     (
-        &[""],
+        &["", "check"],
         b"1 +",
         4,
         "",
         "1:4: unexpected end of query, expected expression, \"bool\", \"ignoring\", \"on\", \"fill\", \"fill_left\" or \"fill_right\"\n1 +\n   ^\n",
     ),
     (
-        &[""],
+        &["", "check"],
         b"1 +\n",
         4,
         "",
         "1:4: unexpected end of query, expected expression, \"bool\", \"ignoring\", \"on\", \"fill\", \"fill_left\" or \"fill_right\"\n1 +\n   ^\n",
     ),
     (
-        &[""],
+        &["", "check"],
         b"a\n+ rate(\n  foo)\n\n",
         4,
         "",
@@ -53,101 +56,134 @@ const QUERIES: [Row; 6] = [
 /// Queries with characters that are shown in another way, and bytes that are none.
 const CHARACTERS: [Row; 9] = [
     (
-        &[""],
+        &["", "check"],
         b"\x1b]0;x\x07(",
         4,
         "",
         "1:1: unexpected character: '\\x1b'\n\\x1b]0;x\\x07(\n^~~~\n",
     ),
     (
-        &[""],
+        &["", "check"],
         b"up \xe2\x80\xae +",
         4,
         "",
         "1:4: unexpected character: '\\u{202e}'\nup \\u{202e} +\n   ^~~~~~~~\n",
     ),
     (
-        &[""],
+        &["", "check"],
         b"a\t+ \xe2\x80\x8f",
         4,
         "",
         "1:5: unexpected character: '\\u{200f}'\na\t+ \\u{200f}\n \t  ^~~~~~~~\n",
     ),
     (
-        &[""],
+        &["", "check"],
         b"foo{a=\"\x07\x1b\"} b",
         4,
         "",
         "1:13: unexpected identifier \"b\", expected \"[\", operator, \"@\", \"offset\", \"smoothed\", \"anchored\" or end of query; an operator is missing before it\nfoo{a=\"\\x07\\x1b\"} b\n                  ^\n",
     ),
     (
-        &[""],
+        &["", "check"],
         b"foo{a=~\"(\x7f\"}",
         4,
         "",
         "1:8: illegal regex for (\\x7f\nfoo{a=~\"(\\x7f\"}\n       ^~~~~~~\n",
     ),
     (
-        &[""],
+        &["", "check"],
         b"a\rb c",
         4,
         "",
         "1:3: unexpected identifier \"b\", expected \"{\", \"[\", \"(\", operator, \"@\", \"offset\", \"smoothed\", \"anchored\" or end of query; an operator is missing before it\na\\x0db c\n     ^\n",
     ),
     (
-        &[""],
+        &["", "check"],
         b"\xef\xbb\xbfup",
         4,
         "",
         "1:1: unexpected character: '\\u{feff}', a byte order mark at the start of the text\n\\u{feff}up\n^~~~~~~~\n",
     ),
     (
-        &[""],
+        &["", "check"],
         b"up\xef\xbb\xbf",
         4,
         "",
         "1:3: unexpected character: '\\u{feff}'\nup\\u{feff}\n  ^~~~~~~~\n",
     ),
-    (&[""], b"1 + \xff", 3, "", "input is not UTF-8\n"),
+    (&["", "check"], b"1 + \xff", 3, "", "input is not UTF-8\n"),
 ];
 
-/// Arguments that there are not, and the help.
-const USAGES: [Row; 6] = [
-    (&[], b"1", 64, "", CHECK_USAGE),
-    (&["", "line"], b"1", 64, "", CHECK_USAGE),
-    (&["", "--max-len"], b"1", 64, "", CHECK_USAGE),
-    (&["", "--max-len", "x"], b"1", 64, "", CHECK_USAGE),
-    (&["", "--max-length", "1"], b"1", 64, "", CHECK_USAGE),
-    (&["", "--help"], b"1", 0, CHECK_HELP, ""),
+/// The help.
+const HELP: [Row; 2] = [
+    (&["", "check", "--help"], b"1", 0, CHECK_HELP, ""),
+    (&["", "check", "-h"], b"1", 0, CHECK_HELP, ""),
+];
+
+/// Arguments, and what is said of them before how a check is used.
+const MISUSES: [(&[&str], &str); 9] = [
+    (&["", "check", "--max-len"], "--max-len needs a value\n"),
+    (
+        &["", "check", "--max-len", "x"],
+        "--max-len is a whole number below 2^64, not \"x\"\n",
+    ),
+    (
+        &["", "check", "--max-length", "1"],
+        "there is no option \"--max-length\"; did you mean --max-len?\n",
+    ),
+    (&["", "check", "-x"], "there is no option \"-x\"\n"),
+    (
+        &["", "check", "--color", "sometimes"],
+        "--color is auto, always or never, not \"sometimes\"\n",
+    ),
+    (&["", "check", "--color"], "--color needs a value\n"),
+    (
+        &["", "check", "--target", "prometheus"],
+        "--target is prometheus-3 or rules, not \"prometheus\"\n",
+    ),
+    (
+        &["", "check", "--keep-spelling"],
+        "there is no option \"--keep-spelling\"\n",
+    ),
+    (
+        &["", "check", "--help", "--help"],
+        "\"--help\" has nothing beside it\n",
+    ),
 ];
 
 /// Queries and their limits.
 const LIMITS: [Row; 6] = [
-    (&["", "--max-len", "4"], b"foo2\n", 0, "", ""),
+    (&["", "check", "--max-len", "4"], b"foo2\n", 0, "", ""),
     (
-        &["", "--max-len", "9", "--max-len", "3"],
+        &["", "check", "--max-len", "9", "--max-len", "3"],
         b"a\n+-\n",
         14,
         "",
         "2:3: query is too long: 4 bytes, at most 3\n+-\n  ^\n",
     ),
     (
-        &["", "--max-len", "0"],
+        &["", "check", "--max-len", "0"],
         b"a",
         14,
         "",
         "1:2: query is too long: 1 bytes, at most 0\na\n ^\n",
     ),
-    (&["", "--max-patterns", "9"], b"{a=~\"bcd\"}", 0, "", ""),
     (
-        &["", "--max-patterns", "17"],
+        &["", "check", "--max-patterns", "9"],
+        b"{a=~\"bcd\"}",
+        0,
+        "",
+        "",
+    ),
+    (
+        &["", "check", "--max-patterns", "17"],
         b"{a=~\"bcd\",b!~\"bcd\",c=\"d\"} b",
         14,
         "",
         "1:14: patterns are too large: 18, at most 17\n{a=~\"bcd\",b!~\"bcd\",c=\"d\"} b\n             ^~~~~\n",
     ),
     (
-        &[""],
+        &["", "check"],
         b"{a=~'b',b!~'\\\\w{32000}',c=~'d'} b",
         14,
         "",
@@ -161,7 +197,15 @@ fn check_row(rt: &impl Abort, alloc: Global, args: &[String], row: &Row) {
     let mut reader = Ended::new(input);
     let mut writer = Ended::new(Vec::new(alloc));
     let mut errors = Ended::new(Vec::new(alloc));
-    let found = check_program(alloc, args, false, &mut reader, &mut writer, &mut errors);
+    let found = program(
+        alloc,
+        false,
+        args,
+        &mut NoFiles,
+        &mut reader,
+        &mut writer,
+        &mut errors,
+    );
     assert_eq!(rt; found, status, "{words:?}");
     assert!(rt; writer.inner().as_slice() == line.as_bytes(), "{words:?}");
     assert!(rt; errors.inner().as_slice() == report.as_bytes(), "{input:?}");
@@ -190,7 +234,44 @@ fn characters_are_shown(rt: HostRuntime) {
 
 #[test]
 fn arguments_have_statuses(rt: HostRuntime) {
-    check_rows(&rt, rt.alloc(), &USAGES);
+    check_rows(&rt, rt.alloc(), &HELP);
+}
+
+/// The program says of these arguments what the row says, and how a check is used.
+fn check_misuse(rt: &impl Abort, alloc: Global, args: &[String], said: &str) {
+    let input: &[u8] = b"1";
+    let mut reader = Ended::new(input);
+    let mut writer = Ended::new(Vec::new(alloc));
+    let mut errors = Ended::new(Vec::new(alloc));
+    let found = program(
+        alloc,
+        false,
+        args,
+        &mut NoFiles,
+        &mut reader,
+        &mut writer,
+        &mut errors,
+    );
+    assert_eq!(rt; found, 64, "{said}");
+    assert!(rt;
+        writer.inner().is_empty() && !reader.inner().is_empty(),
+        "{said}"
+    );
+    let text = errors.inner().as_slice();
+    assert!(rt;
+        text.strip_prefix(said.as_bytes()) == Some(CHECK_USAGE.as_bytes()),
+        "{said}"
+    );
+}
+
+#[test]
+fn wrong_arguments_are_told(rt: HostRuntime) {
+    for (words, said) in &MISUSES {
+        match texts(rt.alloc(), words) {
+            Ok(args) => check_misuse(&rt, rt.alloc(), args.as_slice(), said),
+            Err(_) => holds(&rt, false, "no arguments"),
+        }
+    }
 }
 
 #[test]
@@ -207,37 +288,37 @@ type ColorRow = (
     &'static str,
 );
 
-const COLOR_ROWS: [ColorRow; 13] = [
+const COLOR_ROWS: [ColorRow; 10] = [
     (
-        &[""],
+        &["", "check"],
         false,
         b"1 + ^",
         4,
         "1:5: unexpected \"^\", expected expression, \"bool\", \"ignoring\", \"on\", \"fill\", \"fill_left\" or \"fill_right\"\n1 + ^\n    ^\n",
     ),
     (
-        &[""],
+        &["", "check"],
         true,
         b"1 + ^",
         4,
         "\x1b[1m1:5:\x1b[0m unexpected \"^\", expected expression, \"bool\", \"ignoring\", \"on\", \"fill\", \"fill_left\" or \"fill_right\"\n1 + ^\n    \x1b[1;32m^\x1b[0m\n",
     ),
     (
-        &["", "--color", "never"],
+        &["", "check", "--color", "never"],
         true,
         b"rate(foo)",
         4,
         "1:6: expected type matrix in call to function 'rate', got vector\nrate(foo)\n     ^~~\n",
     ),
     (
-        &["", "--color", "always"],
+        &["", "check", "--color", "always"],
         false,
         b"rate(foo)",
         4,
         "\x1b[1m1:6:\x1b[0m expected type matrix in call to function 'rate', got vector\nrate(foo)\n     \x1b[1;32m^~~\x1b[0m\n",
     ),
     (
-        &["", "--color", "never", "--color", "auto"],
+        &["", "check", "--color", "never", "--color", "auto"],
         true,
         b"a\x1b",
         4,
@@ -245,7 +326,7 @@ const COLOR_ROWS: [ColorRow; 13] = [
     ),
     (
         &[
-            "", "--color", "always", "--target", "rules", "--color", "auto",
+            "", "check", "--color", "always", "--target", "rules", "--color", "auto",
         ],
         false,
         b"\"\\xc3\"",
@@ -255,6 +336,7 @@ const COLOR_ROWS: [ColorRow; 13] = [
     (
         &[
             "",
+            "check",
             "--max-len",
             "9",
             "--color",
@@ -270,6 +352,7 @@ const COLOR_ROWS: [ColorRow; 13] = [
     (
         &[
             "",
+            "check",
             "--max-len",
             "9",
             "--color",
@@ -283,32 +366,30 @@ const COLOR_ROWS: [ColorRow; 13] = [
         "\x1b[1m1:2:\x1b[0m \x1b[35mwarning: \x1b[0mthis escape is a character here, and a byte in Prometheus\n\"\\xc3\"\n \x1b[1;32m^~~~\x1b[0m\n",
     ),
     (
-        &["", "--color", "always", "--max-len", "0"],
+        &["", "check", "--color", "always", "--max-len", "0"],
         false,
         b"a",
         14,
         "\x1b[1m1:2:\x1b[0m query is too long: 1 bytes, at most 0\na\n \x1b[1;32m^\x1b[0m\n",
     ),
     (
-        &["", "--color", "always"],
+        &["", "check", "--color", "always"],
         true,
         b"\xff",
         3,
         "input is not UTF-8\n",
     ),
-    (&["", "--color", "sometimes"], true, b"1", 64, CHECK_USAGE),
-    (&["", "--color"], true, b"1", 64, CHECK_USAGE),
-    (&["", "--target", "prometheus"], true, b"1", 64, CHECK_USAGE),
 ];
 
 /// The program with these options and this setting says what the row says.
 fn check_color_row(rt: &impl Abort, alloc: Global, args: &[String], row: &ColorRow) {
     let (words, usual, input, status, report) = *row;
     let mut errors = Ended::new(Vec::new(alloc));
-    let found = check_program(
+    let found = program(
         alloc,
-        args,
         usual,
+        args,
+        &mut NoFiles,
         &mut Ended::new(input),
         &mut Ended::new(Vec::new(alloc)),
         &mut errors,
@@ -330,31 +411,37 @@ fn colors_of_reports(rt: HostRuntime) {
     }
 }
 
-/// A read that fails has its status and its message.
-fn check_failed_read(rt: &impl Abort, alloc: Global, args: &[String]) {
+/// The status and the message of a read that fails.
+fn failed_read(alloc: Global, args: &[String]) -> io::Result<(u8, Vec<u8>)> {
     let flaky = FlakyReader {
         left: b"1 + 2",
         calls: 0,
         fails_at: 2,
     };
-    let mut errors = Ended::new(Vec::new(alloc));
-    let status = check_program(
+    let mut said = Vec::new(alloc);
+    let status = program(
         alloc,
-        args,
         false,
-        &mut Ended::new(flaky),
+        args,
+        &mut NoFiles,
+        &mut Ended::new(BufReader::with_capacity(alloc, 2, flaky)?),
         &mut Ended::new(Vec::new(alloc)),
-        &mut errors,
+        &mut Ended::new(&mut said),
     );
-    assert_eq!(rt; status, 2);
-    assert!(rt; errors.inner().as_slice() == b"read failed\n".as_slice());
+    Ok((status, said))
 }
 
 #[test]
 fn a_failed_read_ends_with_two(rt: HostRuntime) {
-    match texts(rt.alloc(), &[""]) {
-        Ok(args) => check_failed_read(&rt, rt.alloc(), args.as_slice()),
-        Err(_) => holds(&rt, false, "no arguments"),
+    let Ok(args) = texts(rt.alloc(), &["", "check"]) else {
+        return;
+    };
+    match failed_read(rt.alloc(), args.as_slice()) {
+        Ok((status, said)) => {
+            assert_eq!(&rt; status, 2);
+            assert!(&rt; said.as_slice() == b"read failed\n".as_slice());
+        }
+        Err(_) => holds(&rt, false, "no buffer"),
     }
 }
 
@@ -362,10 +449,11 @@ fn a_failed_read_ends_with_two(rt: HostRuntime) {
 fn failed_status(alloc: Global, words: &[&str]) -> Result<u8, AllocError> {
     let input: &[u8] = b"a b";
     let args = texts(alloc, words)?;
-    Ok(check_program(
+    Ok(program(
         alloc,
-        args.as_slice(),
         true,
+        args.as_slice(),
+        &mut NoFiles,
         &mut Ended::new(input),
         &mut Ended::new(FlakyWriter::new(alloc, 2, 0)),
         &mut Ended::new(FlakyWriter::new(alloc, 2, 0)),
@@ -375,8 +463,8 @@ fn failed_status(alloc: Global, words: &[&str]) -> Result<u8, AllocError> {
 // The status is the same where the report cannot be written; the help has no other place.
 #[test]
 fn writes_that_fail(rt: HostRuntime) {
-    let status = failed_status(rt.alloc(), &[""]);
+    let status = failed_status(rt.alloc(), &["", "check"]);
     holds(&rt, status == Ok(4), "a report");
-    let status = failed_status(rt.alloc(), &["", "--help"]);
+    let status = failed_status(rt.alloc(), &["", "check", "--help"]);
     holds(&rt, status == Ok(5), "the help");
 }

@@ -1,13 +1,15 @@
 //! The program over its arguments, its input and its outputs.
 
 use super::streams::FlakyWriter;
-use super::{holds, is_so, texts};
+use super::{NoFiles, holds, is_so, texts};
+use promql_programs::program::program;
+use promql_programs::usage::HELP;
 use promql_run::ended::Ended;
-use promql_run::program::program;
 use std::alloc::{AllocError, Global};
 use std::process::Abort;
 
-const USAGE: &str = "usage: promql pretty|line|json\n";
+const USAGE: &str =
+    "usage: promql line|pretty|json|check|format|enforce|batch [OPTION..] [FILE..]\n";
 
 /// Arguments, input, status, standard output, standard error.
 type Row = (
@@ -18,7 +20,7 @@ type Row = (
     &'static str,
 );
 
-const ROWS: [Row; 13] = [
+const ROWS: [Row; 18] = [
     (
         &["promql", "line"],
         b"1 + (foo - 2)",
@@ -42,7 +44,20 @@ const ROWS: [Row; 13] = [
         "",
         "number too wide for JSON\n",
     ),
-    (&["promql", "line"], b"a b", 4, "", "invalid promql query\n"),
+    (
+        &["promql", "line"],
+        b"a b",
+        4,
+        "",
+        "1:3: unexpected identifier \"b\", expected \"{\", \"[\", \"(\", operator, \"@\", \"offset\", \"smoothed\", \"anchored\" or end of query; an operator is missing before it\na b\n  ^\n",
+    ),
+    (
+        &["promql", "json"],
+        b"a +\n",
+        4,
+        "",
+        "1:4: unexpected end of query, expected expression, \"bool\", \"ignoring\", \"on\", \"fill\", \"fill_left\" or \"fill_right\"\na +\n   ^\n",
+    ),
     (
         &["promql", "line"],
         b"1 + \xff",
@@ -53,9 +68,19 @@ const ROWS: [Row; 13] = [
     (&[], b"1", 64, "", USAGE),
     (&["promql"], b"1", 64, "", USAGE),
     (&["line"], b"1", 64, "", USAGE),
-    (&["promql", "Line"], b"1", 64, "", USAGE),
-    (&["promql", "line", "line"], b"1", 64, "", USAGE),
-    (&["promql", ""], b"1", 64, "", USAGE),
+    (&["", "--help"], b"1", 0, HELP, ""),
+    (&["", "--version"], b"1", 0, "promql 0.5.0\n", ""),
+    (&["", "line", "--version"], b"1", 0, "promql 0.5.0\n", ""),
+    (&["", "line", "-"], b"1", 0, "1\n", ""),
+    (
+        &["", "line", "--", "-", "-"],
+        b"1",
+        4,
+        "1\n",
+        "1:1: no expression found in input\n\n^\n",
+    ),
+    (&["", "enforce", "a=\"b\""], b"c", 0, "c{a=\"b\"}\n", ""),
+    (&["", "format", "--check"], b"sum(a)\r\n", 0, "", ""),
 ];
 
 /// The program with these arguments does what the row says.
@@ -64,14 +89,23 @@ fn check_row(rt: &impl Abort, alloc: Global, args: &[String], row: &Row) {
     let mut reader = Ended::new(input);
     let mut writer = Ended::new(Vec::new(alloc));
     let mut errors = Ended::new(Vec::new(alloc));
-    let found = program(alloc, args, &mut reader, &mut writer, &mut errors);
+    let found = program(
+        alloc,
+        false,
+        args,
+        &mut NoFiles,
+        &mut reader,
+        &mut writer,
+        &mut errors,
+    );
     assert_eq!(rt; found, status, "{words:?}");
     assert!(rt; writer.inner().as_slice() == line.as_bytes(), "{words:?}");
     assert!(rt;
         errors.inner().as_slice() == message.as_bytes(),
         "{words:?}"
     );
-    assert_eq!(rt; reader.inner().is_empty(), status != 64, "{words:?}");
+    let is_read = status != 64 && !line.starts_with("usage") && !line.starts_with("promql");
+    assert_eq!(rt; reader.inner().is_empty(), is_read, "{words:?}");
 }
 
 #[test]
@@ -90,7 +124,15 @@ fn check_failed_write(rt: &impl Abort, alloc: Global, args: &[String]) {
     let mut writer = Ended::new(FlakyWriter::new(alloc, 2, 0));
     let mut errors = Ended::new(Vec::new(alloc));
     let mut reader = Ended::new(input);
-    let status = program(alloc, args, &mut reader, &mut writer, &mut errors);
+    let status = program(
+        alloc,
+        false,
+        args,
+        &mut NoFiles,
+        &mut reader,
+        &mut writer,
+        &mut errors,
+    );
     assert_eq!(rt; status, 5);
     assert!(rt; writer.inner().held.as_slice() == b"1 +".as_slice());
     assert!(rt; errors.inner().as_slice() == b"write failed\n".as_slice());
@@ -112,7 +154,9 @@ fn is_lost(alloc: Global, word: &str, want: u8) -> Result<bool, AllocError> {
     let mut errors = Ended::new(FlakyWriter::new(alloc, 1, 0));
     let status = program(
         alloc,
+        false,
         args.as_slice(),
+        &mut NoFiles,
         &mut Ended::new(input),
         &mut writer,
         &mut errors,

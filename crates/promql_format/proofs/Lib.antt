@@ -1,2 +1,0 @@
-mod LayoutFailures
-mod OptionSteps

@@ -1,0 +1,10 @@
+mod CheckAnswers
+mod CheckOptions
+mod CommandWords
+mod EnforceFailures
+mod FormatOptionSteps
+mod JobsDone
+mod LayoutFailures
+mod NumberOptions
+mod OptionSteps
+mod SplitWords

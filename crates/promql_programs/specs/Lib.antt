@@ -1,0 +1,14 @@
+pub mod Batches
+pub mod CheckSettings
+pub mod CheckedInputs
+pub mod Checking
+pub mod Commands
+pub mod EnforcedAnswers
+pub mod FormatSettings
+pub mod Jobs
+pub mod Layouts
+pub mod LimitOptions
+pub mod Reports
+pub mod Sources
+pub mod Tasks
+pub mod Words

@@ -1,0 +1,20 @@
+//! A query that is formatted: docs/reference/programs.md, "One query, formatted".
+
+use crate::format_settings::FormatSettings;
+use crate::query_layout::query_layout;
+use crate::task::Task;
+use promql_lines::query_error::QueryError;
+use std::alloc::Global;
+
+impl Task for FormatSettings {
+    ghost use Rattle.std.specs.Prelude.{Err, Ok};
+    ghost use Rattle.promql_programs.specs.Layouts.{IsFormatAnswer};
+
+    ghost makes = { λ settings query answer. IsFormatAnswer settings query (Ok answer) };
+
+    ghost fails = { λ settings e query. IsFormatAnswer settings query (Err e) };
+
+    fn answer(&self, alloc: Global, query: &str) -> Result<String, QueryError> {
+        query_layout(alloc, self, query)
+    }
+}
