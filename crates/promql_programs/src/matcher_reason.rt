@@ -29,6 +29,11 @@ pub(crate) fn matcher_reason(alloc: Global, matcher: &str) -> Result<String, All
 
 /// What is wrong with a text that is no matcher.
 fn fault_of(alloc: Global, matcher: &str) -> Result<Fault, AllocError> {
+    if matcher.trim().is_empty() {
+        let message = String::from_str(alloc, "it is empty")?;
+        let span = end_of_text(matcher);
+        return Ok(Fault { message, span });
+    }
     let opened = joined(alloc, "{", matcher)?;
     let closed = joined(alloc, opened.as_str(), "\n}")?;
     match diagnose(alloc, closed.as_str()) {
