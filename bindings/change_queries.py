@@ -2,7 +2,7 @@
 """Runs the examples that change queries, change_queries of each language, on the queries of the rows that have one line, and compares what
 they print.
 
-usage: bindings/change_queries.py PROGRAM..   with dist/promql_batch. The last line is 'N passed, M failed'
+usage: bindings/change_queries.py PROGRAM..   with dist/promql. The last line is 'N passed, M failed'
 
 Queries that call `info` or have a matcher of `__name__` are left out: the one for C puts the matcher in by `promql_enforce`, and lists what
 `promql_collect` does.
@@ -29,9 +29,9 @@ CHANGED = (
 
 
 def answers(mode, queries):
-    """What promql_batch answers to each query in a mode."""
+    """What promql batch answers to each query in a mode."""
     asked = "".join(json.dumps(query) + "\n" for query in queries)
-    command = [rows.ROOT / "dist" / "promql_batch", mode, "--max-len", str(rows.MAX_LEN)]
+    command = [rows.ROOT / "dist" / "promql", "batch", mode, "--max-len", str(rows.MAX_LEN)]
     ran = subprocess.run(command, input=asked.encode(), stdout=subprocess.PIPE, timeout=60)
     return [json.loads(answer) for answer in ran.stdout.splitlines()]
 

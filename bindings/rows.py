@@ -1,5 +1,5 @@
 #!/usr/bin/env python3
-"""Runs the rows through a binding, and compares what it gives with the stored answers of promql_batch, byte by byte.
+"""Runs the rows through a binding, and compares what it gives with the stored answers of promql batch, byte by byte.
 
 usage: bindings/rows.py c PROGRAM [THREADS]   through bindings/c/tests/test_promql.c, built as PROGRAM, or through those of
                                               rust/examples/rows and go/internal/rows
@@ -7,7 +7,7 @@ usage: bindings/rows.py c PROGRAM [THREADS]   through bindings/c/tests/test_prom
        bindings/rows.py write FILE [COUNT]    writes the calls of COUNT rows, spread evenly, or of all
 Where THREADS are given, each makes all calls again beside the others, and is to get the same.
 
-The rows are the lines of crates/promql_batch/stdin with those of stdout. Each that asks for a query is printed in its mode, and
+The rows are the lines of crates/promql/stdin with those of stdout. Each that asks for a query is printed in its mode, and
 checked and explained; one that asks for a line is also printed by `canonical`, and in Python by `canonical_many`. Of those with a
 matcher to enforce, each that asks for a line is one call, unless that line is too long for an output. A line that is no request is no
 call, and is left out; a line that is not UTF-8 is passed on as the query. What was expected at a syntax error comes from `explain`
@@ -29,8 +29,8 @@ ROOT = Path(__file__).resolve().parent.parent
 sys.path.insert(0, str(ROOT / "bin"))
 from checks import print_counts  # noqa: E402
 
-RUN = ROOT / "crates" / "promql_batch"
-# What the rows are run with: crates/promql_batch/args.
+RUN = ROOT / "crates" / "promql"
+# What the rows are run with: crates/promql/args.
 MAX_LEN = 1_048_576
 MAX_PATTERNS = 32_000
 # The numbers of the calls in a file, and of the modes in promql.h.
@@ -46,7 +46,7 @@ sys.setrecursionlimit(100_000)  # JSON of high trees
 
 
 class Call(NamedTuple):
-    """A call with the answer that is wanted, as promql_batch writes it."""
+    """A call with the answer that is wanted, as promql batch writes it."""
 
     place: str
     call: int
@@ -73,7 +73,7 @@ class Answer(NamedTuple):
     text: bytes
 
     def reply(self, call, mode):
-        """The answer as promql_batch writes it."""
+        """The answer as promql batch writes it."""
         if call == EXPLAIN and self.status == 0:
             return in_short(json.loads(self.text)) if self.text else ACCEPTED
         if self.status == 0:
@@ -92,7 +92,7 @@ def compact(value):
 
 
 def without_expected(reply):
-    """An answer of promql_batch without what was expected, and found, at a syntax error."""
+    """An answer of promql batch without what was expected, and found, at a syntax error."""
     answer = json.loads(reply)
     if "expected" not in answer:
         return reply
@@ -100,14 +100,14 @@ def without_expected(reply):
 
 
 def without_id(reply):
-    """An answer of promql_batch without the id of its request."""
+    """An answer of promql batch without the id of its request."""
     if not reply.startswith(b'{"id":'):
         return reply
     return compact({name: value for name, value in json.loads(reply).items() if name != "id"})
 
 
 def in_short(told):
-    """An explanation as promql_batch answers its query: without what the message says beside `expected` and `found`, or of many levels."""
+    """An explanation as promql batch answers its query: without what the message says beside `expected` and `found`, or of many levels."""
     if told["error"] == TOO_MANY_LEVELS:
         told = {**told, "error": TOO_DEEP}
     if "expected" in told:
@@ -120,7 +120,7 @@ def in_short(told):
 
 
 def calls_of_row(place, asked, answer):
-    """Yields the calls for a line of standard input, which promql_batch answers so."""
+    """Yields the calls for a line of standard input, which promql batch answers so."""
     answer = without_id(answer)
     reply = without_expected(answer)
     code = json.loads(reply).get("code", 0)
@@ -153,7 +153,7 @@ def all_calls():
     asked, replies = ((RUN / name).read_bytes().split(b"\n")[:-1] for name in ("stdin", "stdout"))
     assert len(asked) == len(replies)
     for number, (line, reply) in enumerate(zip(asked, replies), 1):
-        yield from calls_of_row(f"crates/promql_batch/stdin:{number}", line, reply)
+        yield from calls_of_row(f"crates/promql/stdin:{number}", line, reply)
 
 
 def write_calls(calls, path):

@@ -5,7 +5,7 @@
 - a form that was changed in one place is not, but for the changes that a schema does not see (changes.py);
 - its objects, their members and their words are those of the page's tables, and its functions those of docs/reference/functions.md.
 
-usage: bindings/schema/test_schema.py   with dist/promql_batch. The last line is 'N passed, M failed'
+usage: bindings/schema/test_schema.py   with dist/promql. The last line is 'N passed, M failed'
 """
 
 import json
@@ -62,8 +62,8 @@ def forms_of(queries, places):
     """The form of each query that has one, with places or without."""
     asked = "".join(json.dumps({"query": query, "places": places}) + "\n" for query in queries)
     # (the limits of the stored run, since rows are longer than is allowed by default)
-    _, *limits = (ROOT / "crates" / "promql_batch" / "args").read_text(encoding="utf-8").split()
-    command = [ROOT / "dist" / "promql_batch", "json", *limits]
+    _, _, *limits = (ROOT / "crates" / "promql" / "args").read_text(encoding="utf-8").split()
+    command = [ROOT / "dist" / "promql", "batch", "json", *limits]
     ran = subprocess.run(command, input=asked.encode(), stdout=subprocess.PIPE, timeout=60)
     answers = [json.loads(line) for line in ran.stdout.splitlines()]
     check(len(answers) == len(queries), f"{len(answers)} answers to {len(queries)} queries")
