@@ -5,11 +5,11 @@
     bench/format/formatted.py --made N [--seed N]
 
 PROGRAM is a formatter that reads a query from standard input and takes `--width N`, `--keep-spelling` and bounds of a query, as
-`promql_format` does. The queries are those of bench/queries/queries.txt, and the texts of rows/*.tsv that are accepted. Each is formatted
+`promql format` does. The queries are those of bench/queries/queries.txt, and the texts of rows/*.tsv that are accepted. Each is formatted
 as it is, and with comments between its tokens. With --made N, so many queries are made at random or taken from these, with comments, and
 formatted by the library of dist/, each with a width and a spelling by chance. Of each layout it is asked
 
-- that it is a query with the same line (`dist/promql_batch` prints both), and with `--keep-spelling` the same tokens, but for commas
+- that it is a query with the same line (`dist/promql batch` prints both), and with `--keep-spelling` the same tokens, but for commas
   that close a list;
 - that it has the comments of the text, in order, with `--keep-spelling` each between the same tokens, but for commas, and formatted again
   is the same;
@@ -30,7 +30,7 @@ TOP = Path(__file__).resolve().parents[2]
 sys.path.insert(0, str(TOP / "bin"))
 from checks import Checks, print_counts  # noqa: E402
 
-BATCH = TOP / "dist" / "promql_batch"
+PROMQL = TOP / "dist" / "promql"
 PIECE = re.compile(r'\s+("(?:[^"\\]|\\.)*")(?:\s+\*(\d+))?')
 TOKEN = re.compile(
     r"""(?P<string>"(?:\\.|[^"\\])*"|'(?:\\.|[^'\\])*'|`[^`]*`)"""
@@ -58,7 +58,7 @@ def field_text(field: str) -> str:
 def lines_of(texts: list[str]) -> list[str | None]:
     """The line of each text, or `None` where it is no query."""
     requests = "".join(json.dumps({"query": text}) + "\n" for text in texts)
-    command = [str(BATCH), "line", *BOUNDS]
+    command = [str(PROMQL), "batch", "line", *BOUNDS]
     done = subprocess.run(command, input=requests.encode(), capture_output=True, check=False)
     return [json.loads(answer).get("ok") for answer in done.stdout.splitlines()]
 
@@ -124,7 +124,7 @@ def with_comments(text: str, rng: random.Random) -> str:
 
 def formatted(program: str, options: list[str], text: str) -> str | None:
     """What the program writes for a text, without the line feed at the end."""
-    done = subprocess.run([program, *BOUNDS, *options], input=text.encode(), capture_output=True, check=False)
+    done = subprocess.run([program, "format", *BOUNDS, *options], input=text.encode(), capture_output=True, check=False)
     return done.stdout.decode().removesuffix("\n") if done.returncode == 0 else None
 
 

@@ -1,5 +1,5 @@
 #!/usr/bin/env python3
-"""Compares which patterns Go's regexp reads with those that promql_batch reads: bench/patterns/README.md."""
+"""Compares which patterns Go's regexp reads with those that promql reads: bench/patterns/README.md."""
 import argparse
 import collections
 import json
@@ -77,7 +77,7 @@ def counts_product(pattern):
 
 def read_here(program, patterns):
     lines = "".join(json.dumps('{x=~"%s",y="1"}' % p.replace("\\", "\\\\").replace('"', '\\"').replace("\n", "\\n")) + "\n" for p in patterns)
-    run = subprocess.run([program, "line", *NO_LIMITS], input=lines, capture_output=True, text=True, check=False)
+    run = subprocess.run([program, "batch", "line", *NO_LIMITS], input=lines, capture_output=True, text=True, check=False)
     answers = [json.loads(line) for line in run.stdout.splitlines()]
     assert len(answers) == len(patterns), (len(answers), run.stderr)
     return answers
@@ -95,7 +95,7 @@ def main():
     parser = argparse.ArgumentParser(description=__doc__)
     parser.add_argument("--patterns", type=int, default=100_000)
     parser.add_argument("--seed", type=int, default=1)
-    parser.add_argument("--program", default=str(TOP / "bin" / "promql_batch"))
+    parser.add_argument("--program", default=str(TOP / "dist" / "promql"))
     args = parser.parse_args()
     rng = random.Random(args.seed)
     plains = [plain(rng) for _ in range(args.patterns)]

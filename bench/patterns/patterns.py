@@ -1,5 +1,5 @@
 #!/usr/bin/env python3
-"""Patterns made at random, read and matched by a promql_batch.
+"""Patterns made at random, read and matched by a promql.
 
 usage: bench/patterns/patterns.py PROGRAM [COUNT [SEED]]
 
@@ -88,7 +88,7 @@ def ask(program, patterns):
     """The answers to both queries of each pattern."""
     queries = (form % quoted(text) for text in patterns for form in ("x{a=~%s}", "{a=~%s}"))
     lines = "".join(json.dumps(query) + "\n" for query in queries)
-    run = subprocess.run([program, "line", *NO_LIMITS], input=lines.encode(), stdout=subprocess.PIPE, check=False)
+    run = subprocess.run([program, "batch", "line", *NO_LIMITS], input=lines.encode(), stdout=subprocess.PIPE, check=False)
     answers = [json.loads(line) for line in run.stdout.decode().split("\n")[:-1]]
     return zip(answers[::2], answers[1::2], strict=True)
 

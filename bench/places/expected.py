@@ -4,7 +4,7 @@
 usage: bench/places/expected.py PROGRAM            compares the sixth column of the rows with what is found here
        bench/places/expected.py PROGRAM --write    writes that column where it is missing
 
-PROGRAM is a promql_batch: it is asked which texts it accepts, and with which message it rejects others.
+PROGRAM is a promql: it is asked which texts it accepts, and with which message it rejects others.
 """
 
 import json

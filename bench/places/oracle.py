@@ -6,7 +6,7 @@ usage: bench/places/oracle.py PROGRAM            compares the fifth column of th
        bench/places/oracle.py PROGRAM --ask      prints MESSAGE, a TAB and the place of each query of standard input, a JSON
                                                  string a line
 
-PROGRAM is a promql_batch: it is asked which texts it accepts, and with which message it rejects others.
+PROGRAM is a promql: it is asked which texts it accepts, and with which message it rejects others.
 """
 
 import json
@@ -30,7 +30,7 @@ END = "end"
 
 
 class Judge:
-    """Asks a promql_batch; remembers short questions."""
+    """Asks a promql; remembers short questions."""
 
     def __init__(self, program):
         self.program, self.known = program, {}
@@ -39,7 +39,7 @@ class Judge:
         """The message with which each text is rejected, None where it is accepted."""
         new = [it for it in dict.fromkeys(texts) if it not in self.known]
         lines = b"".join(json.dumps(it.decode(), ensure_ascii=False).encode() + b"\n" for it in new)
-        ran = subprocess.run([self.program, "line"], input=lines, stdout=subprocess.PIPE, check=False)
+        ran = subprocess.run([self.program, "batch", "line"], input=lines, stdout=subprocess.PIPE, check=False)
         found = dict(zip(new, (json.loads(line).get("error") for line in ran.stdout.split(b"\n")[:-1]), strict=True))
         self.known.update((text, message) for text, message in found.items() if len(text) < 500)
         return [found[it] if it in found else self.known[it] for it in texts]

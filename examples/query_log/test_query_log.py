@@ -14,7 +14,7 @@ HERE = Path(__file__).resolve().parent
 sys.path.insert(0, str(HERE.parents[1] / "bin"))
 from checks import Checks  # noqa: E402
 
-BATCH = HERE.parents[1] / "dist" / "promql_batch"
+PROMQL = HERE.parents[1] / "dist" / "promql"
 LINES = 10_000
 
 checks = Checks()
@@ -32,7 +32,7 @@ def run(*words, text=None, **environment):
 
 def batch(mode, log):
     """The answers of one process."""
-    return run(BATCH, mode, text=log)[1]
+    return run(PROMQL, "batch", mode, text=log)[1]
 
 
 def test_answers(log):
@@ -41,7 +41,7 @@ def test_answers(log):
         check(f"answers in the mode {mode}, in blocks of {block}", found == (0, batch(mode, log)))
     check("no lines", run(HERE / "answer.sh", "line", text=b"") == (0, b""))
     check("an unknown mode", run(HERE / "answer.sh", "lines", text=log)[0] != 0)
-    check("a process that fails", run(HERE / "answer.sh", "line", text=log, PROMQL_BATCH="false")[0] != 0)
+    check("a process that fails", run(HERE / "answer.sh", "line", text=log, PROMQL="false")[0] != 0)
 
 
 def count_one_by_one(log):
