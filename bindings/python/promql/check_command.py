@@ -1,4 +1,4 @@
-"""python -m promql check: says which queries of rule files and dashboards are rejected, and where."""
+"""promql-rules check: says which queries of rule files and dashboards are rejected, and where."""
 
 from __future__ import annotations
 

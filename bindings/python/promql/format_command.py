@@ -1,4 +1,4 @@
-"""python -m promql format: lays out the queries of rule files and dashboards, and changes nothing else in them."""
+"""promql-rules format: lays out the queries of rule files and dashboards, and changes nothing else in them."""
 
 from __future__ import annotations
 
@@ -130,8 +130,7 @@ def _enforcer(matcher: Optional[str]) -> Callable[[str], str]:
 
 def _run(arguments: argparse.Namespace) -> int:
     if arguments.output != "text" and not (arguments.check or arguments.diff or arguments.write):
-        print("--output is for --check, --diff and --write: the text of a file is printed as it is", file=sys.stderr)
-        return Status.FAILED
+        arguments.wrong("--output is for --check, --diff and --write: the text of a file is printed as it is")
     try:
         enforcer = _enforcer(arguments.enforce)
     except FileError as error:

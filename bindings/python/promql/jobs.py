@@ -81,9 +81,9 @@ ConfiguredWork = Callable[[argparse.Namespace, Target], Report]
 def add_arguments(parser: Any, without_file: str = "") -> None:
     """What the commands over files have in common. Some do something without a file."""
     files = "a rule file, a dashboard (.json), a folder with rule files, or - for standard input"
-    parser.add_argument("files", nargs="*" if without_file else "+", metavar="FILE", help=files + without_file)
+    parser.add_argument("files", nargs="*", metavar="FILE", help=files + without_file)
     parser.add_argument("--dashboard", action="store_true", help="all files are dashboards")
-    parser.add_argument("--jobs", type=_jobs, default=1, metavar="N", help="so many processes (1)")
+    parser.add_argument("--jobs", type=partial(whole_number, least=1, most=_MOST_JOBS), default=1, metavar="N", help="so many processes (1)")
     colors.add_argument(parser)
     add_target(parser)
     parser.add_argument(
@@ -99,10 +99,6 @@ def add_arguments(parser: Any, without_file: str = "") -> None:
     parser.add_argument("--fail-on", choices=SEVERITIES[::-1], help="the least severe messages with which the status is 1")
     parser.add_argument("--strict", action="store_true", help="the status is 1 where something that may be a query is not looked at")
     parser.add_argument("-v", "--verbose", action="store_true", help="name what is skipped in files and folders")
-
-
-def _jobs(text: str) -> int:
-    return whole_number(text, 1, _MOST_JOBS)
 
 
 def _guarded(work: Work, target: Target) -> Report:
@@ -129,7 +125,9 @@ def work_on(
     goes_on: bool = False,
     needs_queries: bool = True,
 ) -> Status:
-    """Puts out what is said of each file, and returns the highest status. It can go on where the output cannot be written."""
+    """Puts out what is said of each file, and returns the status that counts. It can go on where the output cannot be written."""
+    if not targets:
+        arguments.wrong("no FILE is named")
     with_colors = colors.are_wanted(arguments.color, sys.stderr)
     worst, queries = Status.FINE, 0
     told: List[Told] = []

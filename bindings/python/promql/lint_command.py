@@ -1,4 +1,4 @@
-"""python3 -m promql lint: says what is most likely not meant in queries of rule files and dashboards, or in queries that are given."""
+"""promql-rules lint: says what is most likely not meant in queries of rule files and dashboards, or in queries that are given."""
 
 from __future__ import annotations
 
@@ -41,8 +41,7 @@ def _run(arguments: argparse.Namespace) -> int:
     if arguments.rules:
         return _print_rules()
     if arguments.fix and arguments.output != "text" and (arguments.query or STDIN in (arguments.files or [STDIN])):
-        print("--fix prints queries and standard input with their fixes, and no other output", file=sys.stderr)
-        return Status.FAILED
+        arguments.wrong("--fix prints queries and standard input with their fixes, and no other output")
     targets = [Target(f"<query {number}>", query=query) for number, query in enumerate(arguments.query, 1)]
     targets += targets_of(arguments.files, arguments.dashboard)
     targets = targets or [Target(STDIN)]

@@ -1,4 +1,4 @@
-"""python -m promql lsp: a language server for queries and rule files, over standard input and output (docs/guide/editor.md)."""
+"""promql-rules lsp: a language server for queries and rule files, over standard input and output (docs/guide/editor.md)."""
 
 from __future__ import annotations
 

@@ -52,7 +52,7 @@ class Messages(unittest.TestCase):
         self.assertEqual((ran.status, ran.err), (1, colors.painted(PLAIN)))
         self.assertNotEqual(ran.err, PLAIN)
         self.assertEqual(run("format", "--dashboard", "--color=always", "-", stdin=BOARD).err, colors.painted(PLAIN))
-        self.assertEqual(run("check", "--color", "sometimes", "-").status, 2)
+        self.assertEqual(run("check", "--color", "sometimes", "-").status, 64)
 
     def test_terminal(self):
         ours, theirs = pty.openpty()

@@ -1,4 +1,4 @@
-"""Tests of `python -m promql` with dashboards, and without a reader of YAML."""
+"""Tests of `promql-rules` with dashboards, and without a reader of YAML."""
 
 import json
 import random
@@ -169,7 +169,7 @@ class Places(Folder):
 
     def test_options(self):
         for wrong in ("x", "=5", "a b=5", "5=x"):
-            self.assertEqual(run("check", "--variable", wrong, BOARD).status, 2)
+            self.assertEqual(run("check", "--variable", wrong, BOARD).status, 64)
 
 
 class Random(Folder):

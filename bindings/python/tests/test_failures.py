@@ -209,12 +209,11 @@ class Options(unittest.TestCase):
         """The hooks end their options, and a name of a file is none where a configuration does not."""
         text = (ROOT / ".pre-commit-hooks.yaml").read_text()
         self.assertEqual(text.count("entry:"), text.count("args: [--]\n"))
-        hook = "import sys, promql.hook; sys.exit(promql.hook.program())"
         with TemporaryDirectory() as folder:
             Path(folder, "-qup.yml").write_text(GOOD)
             for ends in ([], ["--"]):
                 ran = subprocess.run(
-                    [sys.executable, "-c", hook, "check", *ends, "-qup.yml"],
+                    [sys.executable, "-m", "promql.hook", "check", *ends, "-qup.yml"],
                     cwd=folder, env=environment(), capture_output=True, text=True, check=False,
                 )  # fmt: skip
                 self.assertEqual((ran.returncode, ran.stdout), (0, "./-qup.yml: 1 rule, no errors\n"))
@@ -223,7 +222,7 @@ class Options(unittest.TestCase):
         for option in (("check", "--jobs"), ("lint", "--jobs"), ("format", "--width"), ("check", "--max-file-patterns"), ("serve", "--port")):
             for number in ("+1", " 1", "1 ", "1_000", "\u0661", "\uff11", "", "1.0", "-1", "0x1", "1e3", "9" * 5_000):
                 with self.subTest(option=option, number=number[:10]):
-                    self.assertEqual(run(option[0], f"{option[1]}={number}", "/nowhere")[:2], (2, ""))
+                    self.assertEqual(run(option[0], f"{option[1]}={number}", "/nowhere")[:2], (64, ""))
         self.assertEqual(run("check", "--jobs=01", "--max-file-patterns=18446744073709551615", "/nowhere").err, "/nowhere: No such file or directory\n")
 
 

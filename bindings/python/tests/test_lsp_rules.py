@@ -88,7 +88,7 @@ class Files(unittest.TestCase):
         return [lines.text[slice(*lines.span(it["range"]))] for it in found]
 
     def test_diagnostics(self):
-        """They are those of `python -m promql check`, at their places."""
+        """They are those of `promql-rules check`, at their places."""
         for path in sorted(FILES.glob("*.yml")):
             text = path.read_bytes().decode()
             found = self.client.open(path.as_uri(), text, "yaml")
@@ -118,7 +118,7 @@ class Files(unittest.TestCase):
         self.assertIn("Selects the series of `up`", self.at("hover", BROKEN, BROKEN.index("up{"), OTHER)["contents"]["value"])
 
     def test_layout(self):
-        """It is that of `python -m promql format`, but that a query with a comment is laid out for people."""
+        """It is that of `promql-rules format`, but that a query with a comment is laid out for people."""
         people = Client("--style", "people")
         for path in sorted(FILES.glob("*.yml")):
             if path.name.endswith(".formatted.yml"):

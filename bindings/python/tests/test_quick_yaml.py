@@ -269,7 +269,7 @@ class Jobs(Folder):
 
     def test_options(self):
         for wrong in ("0", "-1", "x", "1000", ""):
-            self.assertEqual(run("check", "--jobs", wrong, self.folder / "a.yml").status, 2)
+            self.assertEqual(run("check", "--jobs", wrong, self.folder / "a.yml").status, 64)
 
 
 if __name__ == "__main__":
