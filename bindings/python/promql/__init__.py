@@ -71,7 +71,10 @@ TARGETS = {"prometheus-3": Target.PROMETHEUS_3, "rules": Target.RULES}
 
 
 class Error(ValueError):
-    """Why a function returns nothing for a query."""
+    """Why a function returns nothing for a query. `number` is the error's in all programs (docs/reference/programs.md, "Numbers of errors"),
+    or 0 where it is not from a call of the library."""
+
+    number = 0
 
 
 class NumberTooWideError(Error):
@@ -442,7 +445,7 @@ def _tree_text(answer: Answer) -> str:
 def _tree_error(failure: Failure) -> Exception:
     """The error of a call about a tree."""
     status, message = failure[:2]
-    return _TREE_ERRORS[status](message) if status in _TREE_ERRORS else _error("", failure)
+    return _numbered(_TREE_ERRORS[status](message), status) if status in _TREE_ERRORS else _error("", failure)
 
 
 # The errors of a part of a query.
@@ -474,10 +477,17 @@ def _error(query: str, failure: Failure) -> Exception:
     # (of a matcher it has no place)
     if status in _PLACED_ERRORS and line:
         start, end = (len(str.encode(query)[:at].decode()) for at in (first, last))
-        return _PLACED_ERRORS[status](message, query, start, end, line, column)
+        return _numbered(_PLACED_ERRORS[status](message, query, start, end, line, column), status)
     if status == Status.SMALL_STACK:
-        return SmallStackError("the thread has less than 1.25 MiB of stack left")
-    return _ERRORS.get(status, Error)(message)
+        return _numbered(SmallStackError("the thread has less than 1.25 MiB of stack left"), status)
+    return _numbered(_ERRORS.get(status, Error)(message), status)
+
+
+def _numbered(error: Exception, number: int) -> Exception:
+    """The error with its number, where it is one of this package."""
+    if isinstance(error, Error):
+        error.number = number
+    return error
 
 
 def _error_of_one(query: str, failure: Optional[Failure]) -> Union[QueryError, UnicodeEncodeError]:

@@ -58,7 +58,7 @@ def program() -> int:
             print(f"standard output: {error.strerror}", file=sys.stderr, flush=True)
         except OSError:
             _leave(sys.stderr)
-        return Status.FAILED
+        return Status.NOT_WRITTEN
 
 
 def _leave(stream: Optional[TextIO]) -> None:

@@ -16,7 +16,7 @@ from .checked_queries import QueryChecker, limited_to
 from .documents import Document, Skipped, Status, read_document
 from .files import BLANKS, STDIN, FileError, write_file
 from .jobs import Report, add_arguments, as_bytes, skipped_file, work_on
-from .messages import ERROR, KEPT, LAYOUT, REJECTED, RULE, WARNING, Message, in_order, kind_of_skipped, left_out, of_error, of_file, placed
+from .messages import ERROR, KEPT, LAYOUT, REJECTED, RULE, WARNING, Message, in_order, kind_of_skipped, left_out, of_error, placed
 from .options import PRETTY, STYLES, WIDTH, whole_number
 from .queries import Query, SameQuery, edited
 from .targets import Target, targets_of
@@ -124,7 +124,7 @@ def _enforcer(matcher: Optional[str]) -> Callable[[str], str]:
     try:
         promql.enforce("up", matcher)
     except ValueError as error:
-        raise FileError(f"--enforce: {error}") from error
+        raise FileError(f"--enforce: {error}", getattr(error, "number", 0) or Status.FAILED) from error
     return partial(promql.enforce, matcher=matcher)
 
 
@@ -135,7 +135,7 @@ def _run(arguments: argparse.Namespace) -> int:
         enforcer = _enforcer(arguments.enforce)
     except FileError as error:
         print(error, file=sys.stderr)
-        return Status.FAILED
+        return error.number
     targets = targets_of(arguments.files, arguments.dashboard)
     return work_on(targets, partial(_format_file, enforcer), arguments, goes_on=True, needs_queries=arguments.check)
 
@@ -152,18 +152,15 @@ def _format_file(enforcer: Callable[[str], str], arguments: argparse.Namespace, 
         queries = len(document.queries)
         changes = _changes(document, printer, messages)
         text = _formatted(document, printer, changes)
-        status, out = _put_out(target.name, document, text, arguments)
+        out = _put_out(target.name, document, text, arguments)
         if arguments.check or arguments.diff:
             source = document.source
             messages += [placed(source, query.whole("laid out otherwise"), ERROR, LAYOUT) for query, _ in changes]
-        return Report(status, as_bytes(out), messages, queries)
     except _FaultsError as error:
-        messages += error.messages
+        out, messages = "", messages + error.messages
     except FileError as error:
-        messages.append(of_error(target.name, error))
-    except OSError as error:
-        messages.append(of_file(target.name, error.strerror or str(error)))
-    return Report(Status.FAILED, b"", messages, queries)
+        out, messages = "", [*messages, of_error(target.name, error)]
+    return Report(Status.FINE, as_bytes(out), messages, queries)
 
 
 class _FaultsError(FileError):
@@ -171,7 +168,7 @@ class _FaultsError(FileError):
 
     def __init__(self, messages: List[Message]) -> None:
         super().__init__("it has faults")
-        self.messages = messages
+        self.messages = [it._replace(status=Status.FAILED) if it.status == Status.FOUND else it for it in messages]
 
 
 def _formatted(document: Document, printer: Printer, changes: List[Tuple[Query, str]]) -> str:
@@ -188,7 +185,7 @@ def _formatted(document: Document, printer: Printer, changes: List[Tuple[Query, 
 
     text = edited(document.source.text, (query.spelling.edit(text) for query, text in changes))
     if not _reads_as(document, text, same_query):
-        raise FileError(f"{document.source.name}: left as it is: formatted, it would not be read as the same")
+        raise FileError(f"{document.source.name}: left as it is: formatted, it would not be read as the same", Status.UNFAITHFUL)
     return text
 
 
@@ -241,18 +238,18 @@ def _changes(document: Document, printer: Printer, messages: List[Message]) -> L
     return changes
 
 
-def _put_out(name: str, document: Document, text: str, arguments: argparse.Namespace) -> Tuple[Status, str]:
+def _put_out(name: str, document: Document, text: str, arguments: argparse.Namespace) -> str:
     """Does with the new text of a file what the options say, and returns what is to be printed."""
     source = document.source
     changed = text != source.text
     if arguments.check or arguments.diff:
         said = f"{visible(source.name)}\n" if arguments.check else "".join(_diff(source.name, source.text, text))
-        return (Status.FOUND, said) if changed else (Status.FINE, "")
+        return said if changed else ""
     if not arguments.write or name == STDIN:
-        return Status.FINE, source.mark + text
+        return source.mark + text
     if changed:
         write_file(source, (source.mark + text).encode())
-    return Status.FINE, ""
+    return ""
 
 
 def _diff(name: str, old: str, new: str) -> Iterator[str]:

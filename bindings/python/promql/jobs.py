@@ -43,14 +43,14 @@ class Report(NamedTuple):
         sys.stdout.buffer.flush()
 
     def judged(self, fail_on: Optional[str] = None, is_strict: bool = False) -> Report:
-        """The same with the status that its messages ask for, unless something failed."""
+        """The same with the status that its messages ask for."""
         failures = [_fails(message, fail_on, is_strict) for message in self.messages]
-        status = self.status if self.status > Status.FOUND else Status.FOUND if any(failures) else Status.FINE
-        return self._replace(status=status, failures=failures)
+        failed = [message.status for message, fails in zip(self.messages, failures) if fails]
+        return self._replace(status=Status.last([self.status, *failed]), failures=failures)
 
 
 def _fails(message: Message, fail_on: Optional[str], is_strict: bool) -> bool:
-    """Whether the status is 1 for a message: where nothing is said, for errors and all findings of the linter."""
+    """Whether the command fails for a message: where nothing is said, for errors and all findings of the linter."""
     if message.code == SKIPPED:
         return False
     if is_strict and message.code == UNREAD:
@@ -70,7 +70,7 @@ def skipped_file(target: Target, skipped: Skipped, is_verbose: bool) -> Report:
 
 def failed(name: str, error: FileError) -> Report:
     """What is said of a file with which nothing is done."""
-    return Report(Status.FAILED, b"", [of_error(name, error)])
+    return Report(Status(error.number), b"", [of_error(name, error)])
 
 
 Work = Callable[[Target], Report]
@@ -96,8 +96,8 @@ def add_arguments(parser: Any, without_file: str = "") -> None:
     parser.add_argument(
         "--output", choices=("text", *OUTPUTS), default="text", help="how messages are printed to standard output (text)"
     )
-    parser.add_argument("--fail-on", choices=SEVERITIES[::-1], help="the least severe messages with which the status is 1")
-    parser.add_argument("--strict", action="store_true", help="the status is 1 where something that may be a query is not looked at")
+    parser.add_argument("--fail-on", choices=SEVERITIES[::-1], help="the least severe messages with which the command fails")
+    parser.add_argument("--strict", action="store_true", help="fail where something that may be a query is not looked at")
     parser.add_argument("-v", "--verbose", action="store_true", help="name what is skipped in files and folders")
 
 
@@ -134,10 +134,10 @@ def work_on(
     with settings_read_anew():
         reports = reports_of(targets, partial(_configured, work, arguments), arguments.jobs)
         for name, report in zip([target.name for target in targets], reports):
-            worst, queries = max(worst, report.status), queries + report.queries
+            queries += report.queries
             if arguments.output != "text":
                 told.append(Told(name, report.messages, report.failures or report.judged().failures))
-            worst = max(worst, _put_out(name, report, arguments, with_colors, goes_on))
+            worst = Status.last([worst, report.status, _put_out(name, report, arguments, with_colors, goes_on)])
     if worst == Status.FINE and not queries and needs_queries:
         worst = Status.EMPTY
         empty = Report(worst, b"", [no_query(len(targets))])
@@ -158,7 +158,7 @@ def _put_out(name: str, report: Report, arguments: argparse.Namespace, with_colo
         if not goes_on:
             raise
         print(visible(f"{name}: {error.strerror}"), file=sys.stderr)
-        return Status.FAILED
+        return Status.NOT_WRITTEN
     return Status.FINE
 
 

@@ -104,8 +104,8 @@ class Queries(Folder):
             path = self.board_of(query)
             ran = run("check", path)
             column = len('{"expr": "') + len(json.dumps(query[: query.rindex(at)])) - 1
-            self.assertEqual((ran.status, ran.err.partition("\n")[0]), (1, f"{path}:2:{column}: {message}"))
-            self.assertEqual(run("format", path).status, 2)
+            self.assertEqual((ran.status, ran.err.partition("\n")[0]), (4, f"{path}:2:{column}: {message}"))
+            self.assertEqual(run("format", path).status, 4)
 
     def test_message(self):
         """A message names the variable, and not what stands in for it."""
@@ -116,7 +116,7 @@ class Queries(Folder):
     def test_values(self):
         """With a value for each variable the query is checked with them; with some, the others are read as without."""
         path = self.board_of("a $op b offset $back")
-        for options, status in (((), 0), (("op=+",), 0), (("op=and", "back=5m"), 0), (("op=+*",), 1), (("op=+", "back=x"), 1)):
+        for options, status in (((), 0), (("op=+",), 0), (("op=and", "back=5m"), 0), (("op=+*",), 4), (("op=+", "back=x"), 4)):
             given = [word for option in options for word in ("--variable", option)]
             self.assertEqual(run("check", *given, path).status, status, options)
         self.assertIn("1 skipped", run("check", "--variable", "back=5m", path).out)

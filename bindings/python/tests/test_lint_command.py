@@ -76,7 +76,7 @@ class Queries(Folder):
         self.assertEqual((ran.status, ran.out), (1, "up{a='b',a='c'}\n"))
         self.assertIn("<stdin>:1:10: error P108: ", ran.err)
         ran = run("lint", stdin=b"up\xff")
-        self.assertEqual((ran.status, ran.out, ran.err), (2, "", "-: not UTF-8 at byte 2\n"))
+        self.assertEqual((ran.status, ran.out, ran.err), (3, "", "<stdin>:1:3: not UTF-8 at byte 2\nup\n  ^\n"))
 
     def test_rejected(self):
         ran = run("lint", stdin=b"sum(\n  rate(foo))")
@@ -315,7 +315,7 @@ class Files(Folder):
         self.assertIn("this is no rule file", ran.err)
         self.assertEqual(run("lint", self.file("a: [")).status, 2)
         self.assertEqual(run("lint", self.folder / "none.yml").status, 2)
-        self.assertEqual(run("lint", self.folder).status, 3)
+        self.assertEqual(run("lint", self.folder).status, 66)
 
     def test_styles(self):
         """Fixed files have the fixed queries, and all else as it was."""
