@@ -299,7 +299,7 @@ CALLS = """
 import sys, threading, promql
 query, said = sys.stdin.read(), []
 def call():
-    for function in promql.canonical, promql.check, promql.format, promql.collect, lambda query: promql.enforce(query, 'tenant="a"'):
+    for function in promql.canonical, promql.check, promql.pretty, promql.collect, lambda query: promql.enforce(query, 'tenant="a"'):
         try:
             function(query)
             said.append("fine")

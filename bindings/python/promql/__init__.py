@@ -49,6 +49,7 @@ __all__ = [
     "parse",
     "parts",
     "places",
+    "pretty",
     "print_tree",
     "rename_label",
     "rename_metric",
@@ -190,7 +191,7 @@ class ReadOtherwiseError(QueryError):
 
 
 def set_target(name: str) -> None:
-    """Sets what reads each later query that `enforce`, `rename_metric`, `rename_label` and `format_query` return and `check` checks, in this
+    """Sets what reads each later query that `enforce`, `rename_metric`, `rename_label` and `format` return and `check` checks, in this
     process: `"prometheus-3"`, as before the first call, or `"rules"`, the rules of this library alone (docs/reference/programs.md,
     "Targets"). A query that it reads otherwise raises ReadOtherwiseError. Raises ValueError where there is no such target."""
     if name not in TARGETS:
@@ -207,7 +208,7 @@ def set_limits(
     """Sets what each later query has to be within, in this process: at most so many bytes, and patterns of at most this size together
     (docs/reference/programs.md, "Limits of a query"). A query that is not raises TooLargeError before it is parsed. A matcher that is
     enforced, and the query with it, have the same limits: where they are not within them, `enforce` raises LargeEnforcedError.
-    `canonical`, `format` and `parse` raise LongOutputError where the text that they make has more than `max_output` bytes. `print_tree`
+    `canonical`, `format`, `pretty` and `parse` raise LongOutputError where the text that they make has more than `max_output` bytes. `print_tree`
     raises TooLargeTreeError where the JSON text of the tree has more than `max_tree` bytes, or its patterns are larger than those of a query
     may be, before anything of it is compiled."""
     wanted = {"max_len": max_len, "max_patterns": max_patterns, "max_output": max_output, "max_tree": max_tree}
@@ -270,15 +271,15 @@ def print_tree(tree: Mapping[str, object], *, parentheses: bool = False, width: 
     return _tree_text(_caller.print_tree(form, Mode.PRETTY, level, width, int(parentheses)))
 
 
-def format(query: str, *, width: int = 100, level: int = 0) -> str:
-    """The query, laid out over several lines where one would have more than `width` bytes.
+def pretty(query: str, *, width: int = 100, level: int = 0) -> str:
+    """The query without comments, laid out over several lines where one would have more than `width` bytes, as `promql pretty` prints it.
 
     Each line begins with `level` indentations of two spaces, which `width` does not count.
     """
     return _text(query, _caller.format(query, _number("level", level, _MAX_LEVEL), _number("width", width, _MAX_WIDTH)))
 
 
-def format_query(query: str, *, width: int = 100, indent: int = 2, keep_spelling: bool = False) -> str:
+def format(query: str, *, width: int = 100, indent: int = 2, keep_spelling: bool = False) -> str:
     """The query, laid out for people (docs/reference/formatting.md): comments stay, chains of operators are flat, and a line has at most
     `width` characters, its indentation counted, where it can be broken. An indentation has `indent` spaces. They are at most 65,535 and 16.
 
@@ -287,6 +288,10 @@ def format_query(query: str, *, width: int = 100, indent: int = 2, keep_spelling
     """
     size, spaces = _number("width", width, MAX_LINE), _number("indent", indent, _MAX_INDENT)
     return _text(query, _caller.format_query(query, size, spaces, int(keep_spelling)))
+
+
+# (as the library and the other languages call it)
+format_query = format
 
 
 def canonical(query: str) -> str:

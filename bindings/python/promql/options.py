@@ -16,8 +16,8 @@ _MOST_DIGITS = 20
 MOST = 2**64 - 1
 # The status of wrong arguments.
 _USAGE = 64
-# How a query is laid out: as `promql pretty` does, or for people, as `promql_format` does, with its comments; and how wide.
-PRETTY, PEOPLE = STYLES = ("pretty", "people")
+# How a query is laid out: for people, with its comments, as `promql format` does, or as `promql pretty` does; and how wide.
+PEOPLE, PRETTY = STYLES = ("people", "pretty")
 WIDTH = 100
 
 

@@ -20,7 +20,7 @@ from http.server import BaseHTTPRequestHandler, ThreadingHTTPServer
 from pathlib import Path
 from typing import Any, Dict, List, Tuple
 
-from . import NumberTooWideError, QueryError, canonical, drawing, format_query, places
+from . import NumberTooWideError, QueryError, canonical, drawing, format, places
 from .options import add_target, whole_number
 from .visible import visible
 
@@ -59,7 +59,7 @@ def describe(query: str, width: int = MAX_WIDTH) -> Dict[str, Any]:
     A text is None where it is too long to show; `note` says why there is no drawing.
     """
     try:
-        texts = {"line": canonical(query), "layout": format_query(query, width=width)}
+        texts = {"line": canonical(query), "layout": format(query, width=width)}
     except QueryError as error:
         return {"error": _error(error)}
     return {**{name: text if len(text) <= MAX_TEXT else None for name, text in texts.items()}, **_drawing(query)}

@@ -19,7 +19,7 @@ from . import limits, set_limits
 from .checked_queries import MOST_FILE_PATTERNS, forget_verdicts
 from .files import FileError
 from .messages import SEVERITIES
-from .options import MOST, PRETTY, STYLES, WIDTH
+from .options import MOST, PEOPLE, STYLES, WIDTH
 from .targets import Target
 
 _NAMES = (".promql.toml", "pyproject.toml")
@@ -101,7 +101,7 @@ def with_settings(arguments: argparse.Namespace, target: Target) -> Tuple[argpar
         "max_file_patterns": bounds.pop("max_file_patterns", MOST_FILE_PATTERNS),
         "fail_on": table.get("fail-on"),
         "width": table.get("width", WIDTH),
-        "style": table.get("style", PRETTY),
+        "style": table.get("style", PEOPLE),
     }
     for name, value in defaults.items():
         if getattr(merged, name, None) is None:

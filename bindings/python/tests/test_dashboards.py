@@ -44,7 +44,8 @@ class Folder(unittest.TestCase):
 class Boards(Folder):
     def test_format(self):
         wanted = (FILES / "board.formatted.json").read_text(encoding="utf-8")
-        ran = run("format", BOARD)
+        pretty = ("format", "--style", "pretty")
+        ran = run(*pretty, BOARD)
         self.assertEqual((ran.status, ran.out), (0, wanted))
         self.assertEqual(
             [line.split("warning: left as it is: ")[1] for line in ran.err.splitlines() if "not looked at" not in line],
@@ -53,8 +54,16 @@ class Boards(Folder):
                 "it has a comment, which would be lost",
             ],
         )
-        self.assertEqual(run("format", "--check", FILES / "board.formatted.json")[:2], (0, ""))
-        self.assertEqual(run("format", "--check", BOARD)[:2], (19, f"{BOARD}\n"))
+        self.assertEqual(run(*pretty, "--check", FILES / "board.formatted.json")[:2], (0, ""))
+        self.assertEqual(run(*pretty, "--check", BOARD)[:2], (19, f"{BOARD}\n"))
+
+    def test_default(self):
+        """Without a style queries are laid out for people, with their comments."""
+        ran = run("format", BOARD)
+        self.assertEqual(ran, run("format", "--style", "people", BOARD))
+        self.assertIn("# down", ran.out)
+        self.assertNotIn("it has a comment", ran.err)
+        self.assertEqual(run("format", "--check", "-", "--dashboard", stdin=ran.out.encode())[:2], (0, ""))
 
     def test_write(self):
         path = self.board('"a+b"', name="other")

@@ -168,7 +168,7 @@ class Folders(unittest.TestCase):
 class Layouts(unittest.TestCase):
     def test_stairs(self):
         """A layout that is longer than a query may be is made for people, in rule files and dashboards."""
-        self.assertGreater(len(promql.format(STAIRS)), 32_768)
+        self.assertGreater(len(promql.pretty(STAIRS)), 32_768)
         with TemporaryDirectory() as folder:
             rules, board = Path(folder, "a.yml"), Path(folder, "a.json")
             rules.write_text(RULE + f"  - record: a\n    expr: {STAIRS}\n  - record: b\n    expr: up==1\n")

@@ -79,6 +79,7 @@ def aliases(groups, rules):
     """A rule file of so many groups, all aliases of one, with so many rules, all aliases of one."""
     return f"r: &r [&q {{expr: up}}{', *q' * (rules - 1)}]\ng: &g {{name: a, rules: *r}}\ngroups: [*g{', *g' * (groups - 1)}]\n"
 
+PRETTY = ("format", "--style", "pretty")
 NO_QUERY = "no query was found in 1 file\n"
 
 
@@ -102,16 +103,28 @@ class Formatted(Folder):
             with self.subTest(name):
                 wanted = (FILES / f"{name}.formatted.yml").read_bytes()
                 path = self.file((FILES / f"{name}.yml").read_bytes())
-                self.assertEqual(run("format", path).out.encode(), wanted)
-                self.assertEqual(run("format", "--write", path).status, 0)
+                self.assertEqual(run(*PRETTY, path).out.encode(), wanted)
+                self.assertEqual(run(*PRETTY, "--write", path).status, 0)
                 self.assertEqual(path.read_bytes(), wanted)
                 self.assertEqual(run("check", "--queries", path).status, 0)
 
     def test_again(self):
         for name in NAMES:
             path = FILES / f"{name}.formatted.yml"
-            self.assertEqual(run("format", path).out.encode(), path.read_bytes(), name)
-            self.assertEqual(run("format", "--check", path)[:2], (0, ""), name)
+            self.assertEqual(run(*PRETTY, path).out.encode(), path.read_bytes(), name)
+            self.assertEqual(run(*PRETTY, "--check", path)[:2], (0, ""), name)
+
+    def test_default(self):
+        """Without a style queries are laid out for people, with their comments, and line ends and marks of the file stay."""
+        for name in NAMES:
+            path = self.file((FILES / f"{name}.yml").read_bytes())
+            self.assertEqual(run("format", path), run("format", "--style", "people", path))
+            before = path.read_bytes()
+            self.assertEqual(run("format", "--write", path).status, 0, name)
+            after = path.read_bytes()
+            self.assertEqual([it in after for it in (b"\r\n", b"\xef\xbb\xbf")], [it in before for it in (b"\r\n", b"\xef\xbb\xbf")], name)
+            self.assertEqual(re.findall(rb"[^\r]\n", after) == [], re.findall(rb"[^\r]\n", before) == [], name)
+            self.assertEqual((run("format", "--check", path).status, run("check", "--queries", path).status), (0, 0), name)
 
     def test_only_queries_change(self):
         key = re.compile(r"^[ -]*\"?(\w+)\"?:")
@@ -145,15 +158,31 @@ class Formatted(Folder):
         self.assertEqual(run("format", "--width", 0, path).status, 0)
         for wrong in ("-1", "x"):
             self.assertEqual(run("format", "--width", wrong, path).status, 64)
+        for wrong in (("--width", 65_536), ("--indent", 17)):
+            self.assertEqual(run("format", *wrong, path)[:2], (9, ""))
+        self.assertEqual(run("format", "--style", "pretty", "--width", 65_536, path).status, 0)
+
+    def test_indentation(self):
+        ran = run("format", "--width", 20, "--indent", 4, self.file(file_of("sum(aaaaaaaaa + bbbbbbbbbbbb)")))
+        self.assertIn("\n          aaaaaaaaa\n", ran.out)
+
+    def test_keep_spelling(self):
+        """Numbers, strings and the order of matchers stay, and so does what a Prometheus reads otherwise."""
+        path = self.file(file_of("", "|\n      absent(foo{b='1',  a=\"\\xe9\"}offset 60s)/1e3 # c\n"))
+        self.assertEqual(run("format", path).status, 23)
+        wanted = file_of("", "|\n      absent(foo{b='1',a=\"\\xe9\"} offset 60s) / 1e3 # c\n")
+        self.assertEqual(run("format", "--keep-spelling", path), (0, wanted, ""))
+        self.assertEqual(run("format", "--keep-spelling", "--style", "pretty", path).status, 64)
+        self.assertEqual(run("format", "--keep-spelling", "--enforce", "a='b'", path).status, 64)
 
     def test_unprintable(self):
         for style in ('"a{b=\\"\\x01\\x85\\u2028\\"}+1"', '"a{b=\\"\\x01\\"}\\\n  + 1"'):
             text = run("format", self.file(file_of("", style))).out
             self.assertRegex(text, r'expr: "a\{b=\\"\\x01.*\\"\} \+ 1"\n')
         long = 'a{b=\\"\\x01\\"}+' + "b" * 100
-        text = run("format", self.file(file_of("", f'"{long}"'))).out
+        text = run(*PRETTY, self.file(file_of("", f'"{long}"'))).out
         self.assertIn('"  a{b=\\"\\x01\\"}\\n+\\n  b', text)
-        self.assertEqual(run("format", self.file(text)).out, text)
+        self.assertEqual(run(*PRETTY, self.file(text)).out, text)
 
     def test_block_of_unprintable(self):
         path = self.file(RULE + '    expr: |  # c\n      a{b="\\x01"}\n      +1\n\n    for: 5m\n')
@@ -167,8 +196,8 @@ class Formatted(Folder):
 
     def test_many_signs(self):
         query = "foo{a=\"" + "#" * 30_000 + "\"}"
-        self.assertEqual(run("format", "--check", self.file(file_of(query))).status, 0)
-        self.assertIn("it has a comment", run("format", self.file(f"groups: [{{rules: [{{expr: '{query} #'}}]}}]\n")).err)
+        self.assertEqual(run(*PRETTY, "--check", self.file(file_of(query))).status, 0)
+        self.assertIn("it has a comment", run(*PRETTY, self.file(f"groups: [{{rules: [{{expr: '{query} #'}}]}}]\n")).err)
 
     def test_comment_below(self):
         inside = RULE + "    expr: |\n        a+b\n      # farther in than its key\n"
@@ -185,7 +214,7 @@ class Formatted(Folder):
         text = f"groups:\n- rules:\n  - ? expr\n    : {TWO_LINES}\n"
         path = self.file(text)
         for option in ("--write", "--check", "--diff"):
-            ran = run("format", option, path)
+            ran = run(*PRETTY, option, path)
             self.assertEqual((ran.status, ran.out, path.read_text()), (12, "", text))
             self.assertEqual(ran.err, f"{path}: left as it is: formatted, it would not be read as the same\n")
 
@@ -214,11 +243,11 @@ class Formatted(Folder):
 
 
 class People(Folder):
-    """`format --style people`."""
+    """`format`, whose style is `people`."""
 
     def formatted(self, query):
         path = self.file(file_of("", "|\n" + "".join(f"      {line}\n" for line in query.split("\n"))))
-        return run("format", "--style", "people", path)
+        return run("format", path)
 
     def test_comments(self):
         for query, wanted in (
@@ -230,25 +259,25 @@ class People(Folder):
             with self.subTest(query):
                 ran = self.formatted(query)
                 self.assertEqual(ran, (0, file_of("", "|\n" + "".join(f"      {line}\n" for line in wanted.split("\n"))), ""))
-                self.assertEqual(run("format", "--style", "people", "--check", self.file(ran.out)), (0, "", ""))
+                self.assertEqual(run("format", "--check", self.file(ran.out)), (0, "", ""))
 
     def test_no_indentation_is_told(self):
         """No line before the others is farther in, so that the block need not say how far in it is."""
-        text = run("format", "--style", "people", self.file(file_of(TWO_LINES))).out
+        text = run("format", self.file(file_of(TWO_LINES))).out
         self.assertIn("    expr: |-\n      sum by (job) (rate(errors", text)
         self.assertIn('\n      / sum by (job) (rate(requests_total{job="api"}[5m]))\n', text)
-        self.assertEqual(run("format", "--style", "people", "--check", self.file(text)), (0, "", ""))
-        self.assertIn("expr: |2-\n", run("format", self.file(text)).out)
+        self.assertEqual(run("format", "--check", self.file(text)), (0, "", ""))
+        self.assertIn("expr: |2-\n", run(*PRETTY, self.file(text)).out)
 
     def test_in_braces(self):
         """A comment ends with its line, so that a query of several lines stays as it is where there are no blocks."""
         text = 'groups: [{name: a, rules: [{record: b, expr: "up{} # c"}, {record: c, expr: "up # c\\n+ 1"}, {record: d, expr: a+b}]}]\n'
-        ran = run("format", "--style", "people", self.file(text))
+        ran = run("format", self.file(text))
         self.assertEqual((ran.status, ran.out), (0, text.replace("a+b", "a + b")))
         self.assertEqual(ran.err.count("it has a comment, and has to stay on one line here"), 1)
 
     def test_enforced(self):
-        ran = run("format", "--style", "people", "--enforce", "a='b'", self.file(file_of("", "|\n      up # c\n")))
+        ran = run("format", "--enforce", "a='b'", self.file(file_of("", "|\n      up # c\n")))
         self.assertEqual(ran.status, 2)
         self.assertIn("not enforced: it has a comment, which would be lost", ran.err)
 
@@ -269,10 +298,10 @@ class Comments(Folder):
         ):
             with self.subTest(query):
                 text = file_of("", "|\n" + "".join(f"      {line}\n" for line in query.split("\n")))
-                ran = run("format", self.file(text))
+                ran = run(*PRETTY, self.file(text))
                 self.assertEqual((ran.status, ran.out), (0, text))
                 self.assertIn("a.yml:6:7: warning: left as it is: it has a comment", ran.err)
-                self.assertEqual(run("format", "--check", self.file(text)).status, 0)
+                self.assertEqual(run(*PRETTY, "--check", self.file(text)).status, 0)
 
     def test_in_strings(self):
         for query in (
@@ -689,10 +718,10 @@ class Page(Folder):
         page = (ROOT / "docs/guide/rule-files.md").read_text(encoding="utf-8")
         for name, text in re.findall(r"`(\w+\.yml)`:\n\n```yaml\n(.*?)^```$", page, re.M | re.S):
             self.file(text, name)
-        sessions = re.findall(r"^```sh\n\$ python3 (.*?)\n(.*?)^```$", page, re.M | re.S)
+        sessions = re.findall(r"^```sh\n\$ promql-rules (.*?)\n(.*?)^```$", page, re.M | re.S)
         self.assertEqual(len(sessions), 5)
         for arguments, wanted in sessions:
-            command = ["sh", "-c", f'exec "$0" {arguments}', sys.executable]
+            command = ["sh", "-c", f'exec "$0" -m promql {arguments}', sys.executable]
             ran = subprocess.run(command, cwd=self.folder, stdout=subprocess.PIPE, stderr=subprocess.STDOUT, check=False)
             self.assertEqual(ran.stdout.decode(), wanted)
 
@@ -746,7 +775,7 @@ class Random(Folder):
 
     def query(self):
         query = self.generator.choice(self.accepted)
-        return promql.format(query, width=self.generator.choice((0, 20, 60, 1000)))
+        return promql.pretty(query, width=self.generator.choice((0, 20, 60, 1000)))
 
     def assert_frame(self, text, frame):
         """The parts of the file around the queries are there, in their order, with nothing but queries between."""
