@@ -17,6 +17,7 @@ from .files import STDIN, FileError, counted, nested_too_deeply
 from .messages import EMPTY, ERROR, SEVERITIES, SKIPPED, UNREAD, Message, of_error, of_file, of_skipped
 from .options import add_target, whole_number
 from .outputs import OUTPUTS, Told
+from .progress import with_progress
 from .targets import Target
 from .team_settings import settings_read_anew, with_settings
 from .visible import visible
@@ -92,6 +93,8 @@ def add_arguments(parser: Any, without_file: str = "") -> None:
         metavar="N",
         help=f"the most that the patterns of a file may measure together ({MOST_FILE_PATTERNS})",
     )
+    parser.add_argument("--max-len", type=whole_number, metavar="N", help="the most bytes of a query (32768)")
+    parser.add_argument("--max-patterns", type=whole_number, metavar="N", help="the most that patterns of a query may measure (16000)")
     parser.add_argument("--config", metavar="FILE", help="the file with settings, and no .promql.toml or pyproject.toml")
     parser.add_argument(
         "--output", choices=("text", *OUTPUTS), default="text", help="how messages are printed to standard output (text)"
@@ -133,7 +136,7 @@ def work_on(
     told: List[Told] = []
     with settings_read_anew():
         reports = reports_of(targets, partial(_configured, work, arguments), arguments.jobs)
-        for name, report in zip([target.name for target in targets], reports):
+        for name, report in with_progress([target.name for target in targets], reports, sys.stderr):
             queries += report.queries
             if arguments.output != "text":
                 told.append(Told(name, report.messages, report.failures or report.judged().failures))
