@@ -299,7 +299,7 @@ CALLS = """
 import sys, threading, promql
 query, said = sys.stdin.read(), []
 def call():
-    for function in promql.canonical, promql.check, promql.format, promql.collect, lambda query: promql.enforce(query, 'tenant="a"'):
+    for function in promql.canonical, promql.check, promql.pretty, promql.collect, lambda query: promql.enforce(query, 'tenant="a"'):
         try:
             function(query)
             said.append("fine")
@@ -398,20 +398,20 @@ def labels(count):
     return RULE + "".join(rules)
 
 
-# What is in a file, and the status of `check --queries` and what it says.
+# What is in a file, and the status of `check --queries` and what it says; 4 is also that of `format`.
 FILES = {
     "merges.yml": (merges(60), 0, "1 rule, no errors"),
     "aliases.yml": (aliases(5000, 5000), 2, "its aliases make more than 1,000,000 rules of it"),
-    "rejected.yml": (RULE + "  - alert: B\n    expr: up ==\n" * 4000, 1, "4000 rules, 4000 errors"),
+    "rejected.yml": (RULE + "  - alert: B\n    expr: up ==\n" * 4000, 4, "4000 rules, 4000 errors"),
     "signs.yml": (RULE + "  - alert: B\n    expr: 'foo{a=\"" + "#" * 30_000 + "\"}'\n", 0, "1 rule, no errors"),
     "twice.yml": (RULE + "groups: []\n", 1, "`groups` is there twice"),
     "nested.yml": ("[" * 100_000, 2, "nested too deeply"),
-    "groups.yml": (RULE + "  - alert: B\n    expr: '{a=~`" + "(" * 250 + "b" + ")" * 250 + "`}'\n", 1, "1 rule, 1 error"),
+    "groups.yml": (RULE + "  - alert: B\n    expr: '{a=~`" + "(" * 250 + "b" + ")" * 250 + "`}'\n", 4, "1 rule, 1 error"),
     "a" * 250 + ".yml": (RULE + "  - alert: B\n    expr: up==0\n", 0, "1 rule, no errors"),
     "digits.json": ('{"panels": [{"id": ' + "1" * 5000 + ', "targets": [{"expr": "up==0"}]}]}', 0, "1 query, no errors"),
     "nested.json": ("[" * 100_000, 2, "nested too deeply"),
     "variables.json": ('{"targets": [{"expr": "' + "$a + " * 100_000 + '"}]}', 0, "1 skipped, no errors"),
-    "braces.json": ('{"targets": [{"expr": "' + "${" * 100_000 + '"}]}', 1, "1 query, 1 error"),
+    "braces.json": ('{"targets": [{"expr": "' + "${" * 100_000 + '"}]}', 4, "1 query, 1 error"),
 }
 # The same of `check`.
 CHECKED_FILES = {
@@ -443,7 +443,7 @@ def attack_files():
             path = Path(folder, name)
             check_file(path, "--queries", *FILES[name])
             ran = run([sys.executable, "-m", "promql", "format", "--write", path], seconds=20)
-            is_so = (ran.status, ran.out) == (2 if status else 0, "") and (not status or path.read_text(encoding="utf-8") == text)
+            is_so = (ran.status, ran.out) == ({0: 0, 4: 4}.get(status, 2), "") and (not status or path.read_text(encoding="utf-8") == text)
             check(f"format --write {name}", is_so, (ran.status, ran.out, ran.err[-300:]))
         for name, file in CHECKED_FILES.items() if has_yaml else ():
             check_file(Path(folder, name), "--jobs=1", *file)

@@ -56,9 +56,9 @@ class Editor:
         start.write_text(lua, encoding="utf-8")
         programs = self.folder / "bin"
         programs.mkdir()
-        python = programs / "python3"
-        python.write_text(f'#!/bin/sh\nexec "{sys.executable}" "$@"\n', encoding="utf-8")
-        python.chmod(0o755)
+        server = programs / "promql-rules"
+        server.write_text(f'#!/bin/sh\nexec "{sys.executable}" -m promql "$@"\n', encoding="utf-8")
+        server.chmod(0o755)
         self.environment = {
             **os.environ,
             "PATH": f"{programs}{os.pathsep}{os.environ['PATH']}",

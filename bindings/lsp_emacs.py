@@ -52,9 +52,9 @@ def main():
         script.write_text(setup + SCRIPT, encoding="utf-8")
         programs = Path(folder) / "bin"
         programs.mkdir()
-        python = programs / "python3"
-        python.write_text(f'#!/bin/sh\nexec "{sys.executable}" "$@"\n', encoding="utf-8")
-        python.chmod(0o755)
+        server = programs / "promql-rules"
+        server.write_text(f'#!/bin/sh\nexec "{sys.executable}" -m promql "$@"\n', encoding="utf-8")
+        server.chmod(0o755)
         path = f"{programs}{os.pathsep}{os.environ['PATH']}"
         environment = {**os.environ, "PATH": path, "PYTHONPATH": str(ROOT / "bindings/python"), "HOME": folder}
         command = ["emacs", "--batch", "-l", str(script)]

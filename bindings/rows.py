@@ -248,7 +248,7 @@ def python_answer(call):
         elif call.call == CANONICAL or call.mode == "line":
             text = promql.canonical(query)
         elif call.mode == "pretty":
-            text = promql.format(query, width=call.width, level=call.level)
+            text = promql.pretty(query, width=call.width, level=call.level)
         elif call.mode == "places":
             text = compact(with_byte_places(promql.parse(query, places=True), query)).decode()
         else:

@@ -615,7 +615,8 @@ test_proxy() {
 test_editor() {
     local python
     if has node 'the extension for VS Code'; then
-        add 'the extension for VS Code' env PYTHONPATH="$here/python" node "$here/lsp_vscode.js" "$root/editors/vscode"
+        mkdir -p "$work/bin" && printf '#!/bin/sh\nexec python3 -m promql "$@"\n' >"$work/bin/promql-rules" && chmod +x "$work/bin/promql-rules"
+        add 'the extension for VS Code' env PATH="$work/bin:$PATH" PYTHONPATH="$here/python" node "$here/lsp_vscode.js" "$root/editors/vscode"
     fi
     has nvim 'the language server in Neovim' || return
     if ! python=$(python_with_yaml); then

@@ -4,6 +4,7 @@
 programs=(promql promql_batch promql_check promql_enforce promql_format)
 prefix=$work/prefix
 share=$prefix/share
+both=$work/both
 
 # make_for TARGET VARIABLE..: make in the checkout.
 make_for() {
@@ -90,11 +91,57 @@ part_of_another() {
         ctest --test-dir "$work/has/build" -N | grep -q '^Total Tests: 0$'
 }
 
+# put_in MAKE-OR-PIP, take_out MAKE-OR-PIP: installs what make does, or the package for Python, below the prefix `both`, or uninstalls it.
+put_in() {
+    case $1 in
+    make) make_for install PREFIX="$both" ;;
+    pip) "$both/bin/python" -m pip install --quiet --no-deps --no-index "$work"/both_wheels/*.whl ;;
+    esac
+}
+
+take_out() {
+    case $1 in
+    make) make_for uninstall PREFIX="$both" ;;
+    pip) "$both/bin/python" -m pip uninstall --quiet --yes promql ;;
+    esac
+}
+
+# runs_in MAKE-OR-PIP: whether the command that it installs works.
+runs_in() {
+    case $1 in
+    make) [ "$("$both/bin/promql" line <<<'1+2')" = '1 + 2' ] ;;
+    pip) "$both/bin/promql-rules" check "$here/python/tests/files/board.json" | grep -q ' no errors$' ;;
+    esac
+}
+
+# make_and_pip PYTHON: what make and pip install below one prefix has no file in common, works in either order, and goes without the other.
+make_and_pip() {
+    local empty order first second by_make gone
+    "$1" -m venv --system-site-packages --without-pip "$both" &&
+        "$1" -m pip wheel --quiet --no-build-isolation --no-deps --no-index --wheel-dir "$work/both_wheels" "$here/python" || return
+    empty=$(files_in "$both")
+    put_in make && by_make=$(comm -13 <(echo "$empty") <(files_in "$both")) && take_out make && put_in pip || return
+    [ -n "$by_make" ] && [ -z "$(comm -12 <(echo "$by_make") <(files_in "$both"))" ] && take_out pip || return
+    for order in 'make pip make' 'make pip pip' 'pip make make' 'pip make pip'; do
+        echo "installed and uninstalled: $order"
+        read -r first second gone <<<"$order"
+        put_in "$first" && put_in "$second" && runs_in make && runs_in pip && take_out "$gone" || return
+        if [ "$gone" = "$first" ]; then first=$second; fi
+        ! runs_in "$gone" 2>/dev/null && runs_in "$first" && take_out "$first" && [ "$(files_in "$both")" = "$empty" ] || return
+    done
+}
+
 test_install() {
+    local python
     has make 'make install' && has python3 'make install' || return
     try 'make install' install_all
     [ -d "$share" ] || return
     if has groff 'the manual pages'; then try 'the manual pages' manuals_are_read; fi
+    if python=$(python_with_setuptools); then
+        PYTHONPATH='' try "make install beside pip install, by $python" make_and_pip "$python"
+    else
+        echo 'not tried: make install beside pip install: no Python here has pip, setuptools of 64 or later, and wheel'
+    fi
     try 'completions of bash' bash_completes
     if has fish 'completions of fish'; then try 'completions of fish' fish_completes; fi
     if has zsh 'completions of zsh'; then try 'completions of zsh' zsh_completes; fi
@@ -103,6 +150,6 @@ test_install() {
     try 'the project of CMakeLists.txt as a part of another one' part_of_another
 }
 
-export prefix share
+export prefix share both
 export -f make_for files_in install_all manuals_are_read completed bash_completes fish_completes zsh_completes
-export -f cmake_user found_by_cmake part_of_another
+export -f cmake_user found_by_cmake part_of_another put_in take_out runs_in make_and_pip

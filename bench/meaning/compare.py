@@ -331,7 +331,7 @@ def compare(query, both, own, counts, differences):
             differences.append((law, query, texts, first, second))
 
     printed, enforced = promql.canonical(query), promql.enforce(query, MATCHER)
-    texts = [printed, promql.format(query, width=40), promql.format(query, width=100)]
+    texts = [printed, promql.pretty(query, width=40), promql.pretty(query, width=100)]
     written = {server: server.evaluate(query) for server in (both, own)}
     counts["queries"] += 1
     if written[both][0] == ("error", "bad_data"):

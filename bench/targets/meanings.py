@@ -101,8 +101,8 @@ def printed_texts(query: str) -> Dict[str, str]:
     """What the library prints for a query, each text once, by what printed it."""
     made = {
         "line": promql.canonical(query),
-        "layout at width 1": promql.format(query, width=1),
-        "layout at width 40": promql.format(query, width=40),
+        "layout at width 1": promql.pretty(query, width=1),
+        "layout at width 40": promql.pretty(query, width=40),
         "formatted at width 20": promql.format_query(query, width=20),
         "formatted at width 80": promql.format_query(query, width=80),
     }

@@ -49,6 +49,7 @@ __all__ = [
     "parse",
     "parts",
     "places",
+    "pretty",
     "print_tree",
     "rename_label",
     "rename_metric",
@@ -71,7 +72,10 @@ TARGETS = {"prometheus-3": Target.PROMETHEUS_3, "rules": Target.RULES}
 
 
 class Error(ValueError):
-    """Why a function returns nothing for a query."""
+    """Why a function returns nothing for a query. `number` is the error's in all programs (docs/reference/programs.md, "Numbers of errors"),
+    or 0 where it is not from a call of the library."""
+
+    number = 0
 
 
 class NumberTooWideError(Error):
@@ -187,7 +191,7 @@ class ReadOtherwiseError(QueryError):
 
 
 def set_target(name: str) -> None:
-    """Sets what reads each later query that `enforce`, `rename_metric`, `rename_label` and `format_query` return and `check` checks, in this
+    """Sets what reads each later query that `enforce`, `rename_metric`, `rename_label` and `format` return and `check` checks, in this
     process: `"prometheus-3"`, as before the first call, or `"rules"`, the rules of this library alone (docs/reference/programs.md,
     "Targets"). A query that it reads otherwise raises ReadOtherwiseError. Raises ValueError where there is no such target."""
     if name not in TARGETS:
@@ -204,7 +208,7 @@ def set_limits(
     """Sets what each later query has to be within, in this process: at most so many bytes, and patterns of at most this size together
     (docs/reference/programs.md, "Limits of a query"). A query that is not raises TooLargeError before it is parsed. A matcher that is
     enforced, and the query with it, have the same limits: where they are not within them, `enforce` raises LargeEnforcedError.
-    `canonical`, `format` and `parse` raise LongOutputError where the text that they make has more than `max_output` bytes. `print_tree`
+    `canonical`, `format`, `pretty` and `parse` raise LongOutputError where the text that they make has more than `max_output` bytes. `print_tree`
     raises TooLargeTreeError where the JSON text of the tree has more than `max_tree` bytes, or its patterns are larger than those of a query
     may be, before anything of it is compiled."""
     wanted = {"max_len": max_len, "max_patterns": max_patterns, "max_output": max_output, "max_tree": max_tree}
@@ -267,15 +271,15 @@ def print_tree(tree: Mapping[str, object], *, parentheses: bool = False, width: 
     return _tree_text(_caller.print_tree(form, Mode.PRETTY, level, width, int(parentheses)))
 
 
-def format(query: str, *, width: int = 100, level: int = 0) -> str:
-    """The query, laid out over several lines where one would have more than `width` bytes.
+def pretty(query: str, *, width: int = 100, level: int = 0) -> str:
+    """The query without comments, laid out over several lines where one would have more than `width` bytes, as `promql pretty` prints it.
 
     Each line begins with `level` indentations of two spaces, which `width` does not count.
     """
     return _text(query, _caller.format(query, _number("level", level, _MAX_LEVEL), _number("width", width, _MAX_WIDTH)))
 
 
-def format_query(query: str, *, width: int = 100, indent: int = 2, keep_spelling: bool = False) -> str:
+def format(query: str, *, width: int = 100, indent: int = 2, keep_spelling: bool = False) -> str:
     """The query, laid out for people (docs/reference/formatting.md): comments stay, chains of operators are flat, and a line has at most
     `width` characters, its indentation counted, where it can be broken. An indentation has `indent` spaces. They are at most 65,535 and 16.
 
@@ -284,6 +288,10 @@ def format_query(query: str, *, width: int = 100, indent: int = 2, keep_spelling
     """
     size, spaces = _number("width", width, MAX_LINE), _number("indent", indent, _MAX_INDENT)
     return _text(query, _caller.format_query(query, size, spaces, int(keep_spelling)))
+
+
+# (as the library and the other languages call it)
+format_query = format
 
 
 def canonical(query: str) -> str:
@@ -442,7 +450,7 @@ def _tree_text(answer: Answer) -> str:
 def _tree_error(failure: Failure) -> Exception:
     """The error of a call about a tree."""
     status, message = failure[:2]
-    return _TREE_ERRORS[status](message) if status in _TREE_ERRORS else _error("", failure)
+    return _numbered(_TREE_ERRORS[status](message), status) if status in _TREE_ERRORS else _error("", failure)
 
 
 # The errors of a part of a query.
@@ -474,10 +482,17 @@ def _error(query: str, failure: Failure) -> Exception:
     # (of a matcher it has no place)
     if status in _PLACED_ERRORS and line:
         start, end = (len(str.encode(query)[:at].decode()) for at in (first, last))
-        return _PLACED_ERRORS[status](message, query, start, end, line, column)
+        return _numbered(_PLACED_ERRORS[status](message, query, start, end, line, column), status)
     if status == Status.SMALL_STACK:
-        return SmallStackError("the thread has less than 1.25 MiB of stack left")
-    return _ERRORS.get(status, Error)(message)
+        return _numbered(SmallStackError("the thread has less than 1.25 MiB of stack left"), status)
+    return _numbered(_ERRORS.get(status, Error)(message), status)
+
+
+def _numbered(error: Exception, number: int) -> Exception:
+    """The error with its number, where it is one of this package."""
+    if isinstance(error, Error):
+        error.number = number
+    return error
 
 
 def _error_of_one(query: str, failure: Optional[Failure]) -> Union[QueryError, UnicodeEncodeError]:

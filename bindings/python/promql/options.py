@@ -1,18 +1,56 @@
-"""Values of options, as the programs of dist/ take them."""
+"""The name of the command, and values of options, as the programs of dist/ take them."""
 
 from __future__ import annotations
 
 import argparse
-from typing import Any
+import difflib
+import sys
+from typing import Any, Iterable, List, NoReturn, Optional, Sequence, Tuple
 
-from . import TARGETS
+from . import TARGETS, __version__
+from .visible import visible
 
+PROGRAM = "promql-rules"
 # More digits than any number below 2^64 has.
 _MOST_DIGITS = 20
 MOST = 2**64 - 1
-# How a query is laid out: as `promql pretty` does, or for people, as `promql_format` does, with its comments; and how wide.
-PRETTY, PEOPLE = STYLES = ("pretty", "people")
+# The status of wrong arguments.
+_USAGE = 64
+# How a query is laid out: for people, with its comments, as `promql format` does, or as `promql pretty` does; and how wide.
+PEOPLE, PRETTY = STYLES = ("people", "pretty")
 WIDTH = 100
+
+
+class Parser(argparse.ArgumentParser):
+    """Reads the arguments of the command, or of one of its subcommands, and ends it with a message where they are wrong."""
+
+    def __init__(self, **settings: Any) -> None:
+        super().__init__(**settings)
+        self.set_defaults(wrong=self.error)
+        self.add_argument("--version", action="version", version=f"{PROGRAM} {__version__}", help="print the version, and do no more")
+
+    def parse_known_args(self, args: Optional[Sequence[str]] = None, namespace: Any = None) -> Tuple[Any, List[str]]:
+        """The same, but that no argument may be left, so that the subcommand says what is wrong with its own."""
+        found, rest = super().parse_known_args(args, namespace)
+        if rest:
+            word = rest[0].partition("=")[0]
+            known = _nearest(word, self._option_string_actions)
+            self.error(f"no option is called {word}{known}" if word.startswith("-") else f"too many arguments: {rest[0]!r}")
+        return found, rest
+
+    def error(self, message: str) -> NoReturn:
+        self.print_usage(sys.stderr)
+        self.exit(_USAGE, f"{self.prog}: {visible(message)}\n")
+
+    def _check_value(self, action: argparse.Action, value: Any) -> None:
+        if action.choices is not None and value not in action.choices:
+            wrong = f"{value!r} is none of {', '.join(action.choices)}{_nearest(value, action.choices)}"
+            raise argparse.ArgumentError(action, wrong)
+
+
+def _nearest(word: str, known: Iterable[str]) -> str:
+    """A hint at the word that is most likely meant, if one is near."""
+    return "".join(f": did you mean {near}?" for near in difflib.get_close_matches(word, known, 1))
 
 
 def whole_number(text: str, least: int = 0, most: int = MOST) -> int:

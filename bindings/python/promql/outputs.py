@@ -11,6 +11,7 @@ from xml.sax.saxutils import escape, quoteattr
 import promql
 
 from .messages import DESCRIPTIONS, ERROR, FILE, INFO, WARNING, Message
+from .options import PROGRAM
 from .visible import visible
 
 _SCHEMA = "https://json.schemastore.org/sarif-2.1.0.json"
@@ -51,7 +52,7 @@ def as_sarif(command: str, told: List[Told]) -> str:
     messages = _messages(told)
     codes = sorted({message.code for message in messages})
     kinds = {message.code: message for message in reversed(messages)}
-    driver = {"name": f"promql {command}", "version": promql.version(), "rules": [_sarif_rule(kinds[code]) for code in codes]}
+    driver = {"name": f"{PROGRAM} {command}", "version": promql.version(), "rules": [_sarif_rule(kinds[code]) for code in codes]}
     results = [_sarif_result(message, codes.index(message.code)) for message in messages]
     is_done = not any(message.code == FILE for message in messages)
     run = {
@@ -129,7 +130,7 @@ def as_junit(command: str, told: List[Told]) -> str:
     cases = [case for it in told for case in _cases(it)]
     failed, broken = (sum(f"<{kind} " in case for case in cases) for kind in ("failure", "error"))
     counts = f'tests="{len(cases)}" failures="{failed}" errors="{broken}"'
-    suite = f'  <testsuite name="promql {command}" {counts}>\n{"".join(cases)}  </testsuite>\n'
+    suite = f'  <testsuite name="{PROGRAM} {command}" {counts}>\n{"".join(cases)}  </testsuite>\n'
     return f'<?xml version="1.0" encoding="UTF-8"?>\n<testsuites {counts}>\n{suite}</testsuites>\n'
 
 

@@ -1,4 +1,4 @@
-"""A page to try queries in, served on this machine alone: `python -m promql serve`.
+"""A page to try queries in, served on this machine alone: `promql-rules serve`.
 
 `GET /` is the page. `POST /query` takes a JSON object with the member `query`, and `width` for the characters of a line, and returns
 what the page shows of that query (`describe`). Everything that a browser needs comes from the folder `static`.
@@ -14,13 +14,14 @@ import socket
 import socketserver
 import sys
 import time
+from functools import partial
 from http import HTTPStatus
 from http.server import BaseHTTPRequestHandler, ThreadingHTTPServer
 from pathlib import Path
 from typing import Any, Dict, List, Tuple
 
-from . import NumberTooWideError, QueryError, canonical, drawing, format_query, places
-from .options import add_target
+from . import NumberTooWideError, QueryError, canonical, drawing, format, places
+from .options import add_target, whole_number
 from .visible import visible
 
 ADDRESS = "127.0.0.1"
@@ -58,7 +59,7 @@ def describe(query: str, width: int = MAX_WIDTH) -> Dict[str, Any]:
     A text is None where it is too long to show; `note` says why there is no drawing.
     """
     try:
-        texts = {"line": canonical(query), "layout": format_query(query, width=width)}
+        texts = {"line": canonical(query), "layout": format(query, width=width)}
     except QueryError as error:
         return {"error": _error(error)}
     return {**{name: text if len(text) <= MAX_TEXT else None for name, text in texts.items()}, **_drawing(query)}
@@ -233,11 +234,5 @@ def add_parser(subparsers: argparse._SubParsersAction[argparse.ArgumentParser]) 
     text = "serve a page to try queries in, on this machine alone"
     parser = subparsers.add_parser("serve", help=text, description=text)
     add_target(parser)
-    parser.add_argument("--port", type=_port, default=DEFAULT_PORT, help="the port (%(default)s); 0 for a free one")
+    parser.add_argument("--port", type=partial(whole_number, most=65_535), default=DEFAULT_PORT, help="the port (%(default)s); 0 for a free one")
     parser.set_defaults(run=lambda options: serve(options.port))
-
-
-def _port(text: str) -> int:
-    if not re.fullmatch(r"[0-9]{1,5}", text) or int(text) > 65_535:
-        raise argparse.ArgumentTypeError("a port is a number from 0 to 65535")
-    return int(text)

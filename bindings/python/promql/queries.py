@@ -6,6 +6,7 @@ from typing import Callable, Iterable, List, NamedTuple, Optional, Protocol, Seq
 
 import promql
 
+from ._answers import Status
 from .files import BLANKS, Fault
 
 SameQuery = Callable[[str, str], bool]
@@ -106,12 +107,13 @@ class Query(NamedTuple):
 
     def rejected(self, error: ValueError, is_explained: bool = True) -> Fault:
         """The fault of a query for which a function of the package raised this, with what was expected there or without."""
+        if isinstance(error, UnicodeEncodeError):
+            return self.fault(error.start, error.end, "half of a surrogate pair")._replace(number=Status.NOT_UTF8)
+        fault = self.whole(str(error))
         if isinstance(error, promql.QueryError):
             message = error.message if is_explained else error.reason
-            return self.fault(error.start, error.end, self.variables.put_back(message) if self.variables else message)
-        if isinstance(error, UnicodeEncodeError):
-            return self.fault(error.start, error.end, "half of a surrogate pair")
-        return self.whole(str(error))
+            fault = self.fault(error.start, error.end, self.variables.put_back(message) if self.variables else message)
+        return fault._replace(number=getattr(error, "number", 0) or Status.REJECTED)
 
 
 def edited(text: str, edits: Iterable[Edit]) -> str:

@@ -19,7 +19,7 @@ from . import limits, set_limits
 from .checked_queries import MOST_FILE_PATTERNS, forget_verdicts
 from .files import FileError
 from .messages import SEVERITIES
-from .options import MOST, PRETTY, STYLES, WIDTH
+from .options import MOST, PEOPLE, STYLES, WIDTH
 from .targets import Target
 
 _NAMES = (".promql.toml", "pyproject.toml")
@@ -97,11 +97,12 @@ def with_settings(arguments: argparse.Namespace, target: Target) -> Tuple[argpar
     table = settings.table
     merged = argparse.Namespace(**vars(arguments))
     bounds = {key.replace("-", "_"): value for key, value in table.get("limits", {}).items()}
+    bounds.update({name: vars(arguments)[name] for name in _LIMITS if vars(arguments).get(name) is not None})
     defaults = {
         "max_file_patterns": bounds.pop("max_file_patterns", MOST_FILE_PATTERNS),
         "fail_on": table.get("fail-on"),
         "width": table.get("width", WIDTH),
-        "style": table.get("style", PRETTY),
+        "style": table.get("style", PEOPLE),
     }
     for name, value in defaults.items():
         if getattr(merged, name, None) is None:
@@ -156,7 +157,7 @@ def _found(folder: str) -> TeamSettings:
 def _read(path: str) -> TeamSettings:
     """The settings of a file; none where it is a pyproject.toml without them."""
     try:
-        with open(path, encoding="utf-8") as file:
+        with open(path, encoding="utf-8-sig") as file:
             text = file.read()
     except OSError as error:
         raise FileError(f"{path}: {error.strerror}") from error
@@ -185,7 +186,9 @@ def _parsed(path: str, text: str) -> Any:
     except RecursionError as error:
         raise FileError(f"{path}: nested too deeply") from error
     except ValueError as error:
-        raise FileError(f"{path}: not TOML: {error}") from error
+        what, _, place = str(error).partition(" (at line ")
+        at = f":{place[:-1].replace(', column ', ':')}" if place else ""
+        raise FileError(f"{path}{at}: not TOML: {what}") from error
 
 
 def _look_at(path: str, table: Table, part: str) -> None:

@@ -1,4 +1,4 @@
-"""Runs `python -m promql` within the process of a test."""
+"""Runs `promql-rules` within the process of a test."""
 
 import contextlib
 import io

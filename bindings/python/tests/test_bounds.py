@@ -121,7 +121,7 @@ class Patterns(unittest.TestCase):
             size = sum(map(pattern_size, queries))
             for path in (rules, board):
                 bound = f"--max-file-patterns={size - 5}"
-                for command, status in (("check", 1), ("lint", 2), ("format", 2)):
+                for command, status in (("check", 4), ("lint", 2), ("format", 4)):
                     with self.subTest(path=path, command=command):
                         ran = run(command, bound, path)
                         self.assertEqual(ran.status, status)

@@ -164,8 +164,8 @@ class Same(unittest.TestCase):
             self.assertIn(outcome(promql, "canonical", "up", *arguments)[0], (TypeError,))
         for level, width in ((0.5, 1), (1, 0.5), ("1", 1), (None, 1)):
             with self.assertRaises(TypeError):
-                promql.format("up", level=level, width=width)
-        self.assertEqual(promql.format("up", level=True), "  up")
+                promql.pretty("up", level=level, width=width)
+        self.assertEqual(promql.pretty("up", level=True), "  up")
 
     def test_strange_texts(self):
         class Text(str):
@@ -290,7 +290,7 @@ class Memory(unittest.TestCase):
         query = "x" * 10_000_000
         tracemalloc.start()
         self.addCleanup(tracemalloc.stop)
-        for call in promql.parse, promql.canonical, promql.format, promql.check:
+        for call in promql.parse, promql.canonical, promql.pretty, promql.check:
             with self.assertRaises(promql.TooLargeError):
                 call(query)
         self.assertLess(tracemalloc.get_traced_memory()[1], 60_000_000)
@@ -301,7 +301,7 @@ class Memory(unittest.TestCase):
         literal = {"type": "stringLiteral", "val": "d"}
         self.assertEqual(promql.parse(query)["args"][3:], [literal] * 190_000)
         wide = "sum(a)" + "/sum(a)" * 100
-        self.assertEqual(promql.format(wide, level=512, width=0).replace(" ", "").replace("\n", ""), wide)
+        self.assertEqual(promql.pretty(wide, level=512, width=0).replace(" ", "").replace("\n", ""), wide)
 
     def test_references(self):
         query = "".join(["a", " +b"])
@@ -342,7 +342,7 @@ class Lock(unittest.TestCase):
         sys.setswitchinterval(1000)
         self.addCleanup(sys.setswitchinterval, before)
         query = "label_join(a, 'b', 'c'" + ", 'd'" * 190_000 + ")"
-        for function, argument in ((promql.canonical, query), (promql.format, query), (promql.canonical_many, [query])):
+        for function, argument in ((promql.canonical, query), (promql.pretty, query), (promql.canonical_many, [query])):
             self.assertTrue(any(self.is_overtaken(function, argument) for _ in range(20)), function)
 
     @staticmethod

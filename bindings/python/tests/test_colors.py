@@ -49,10 +49,10 @@ class Messages(unittest.TestCase):
         for color in "auto", "never":
             self.assertEqual(run("check", "--dashboard", "--color", color, "-", stdin=BOARD).err, PLAIN)
         ran = run("check", "--dashboard", "--color", "always", "-", stdin=BOARD)
-        self.assertEqual((ran.status, ran.err), (1, colors.painted(PLAIN)))
+        self.assertEqual((ran.status, ran.err), (4, colors.painted(PLAIN)))
         self.assertNotEqual(ran.err, PLAIN)
         self.assertEqual(run("format", "--dashboard", "--color=always", "-", stdin=BOARD).err, colors.painted(PLAIN))
-        self.assertEqual(run("check", "--color", "sometimes", "-").status, 2)
+        self.assertEqual(run("check", "--color", "sometimes", "-").status, 64)
 
     def test_terminal(self):
         ours, theirs = pty.openpty()

@@ -41,31 +41,31 @@ class Completions(unittest.TestCase):
         return str(path)
 
     def test_version(self):
-        self.assertEqual(run("--version"), (0, f"promql {promql.__version__}\n", ""))
+        self.assertEqual(run("--version"), (0, f"promql-rules {promql.__version__}\n", ""))
 
     @unittest.skipUnless(shutil.which("bash"), "there is no bash here")
     def test_bash(self):
-        call = '. "$1"; shift; COMP_WORDS=("$@"); COMP_CWORD=$(($# - 1)); _promql; printf "%s\\n" "${COMPREPLY[@]}"'
+        call = '. "$1"; shift; COMP_WORDS=("$@"); COMP_CWORD=$(($# - 1)); _promql_rules; printf "%s\\n" "${COMPREPLY[@]}"'
         script = self.script("bash")
         for before, word, wanted in COMPLETED:
-            found = ran("bash", "-c", call, "bash", script, "promql", *before, word)
+            found = ran("bash", "-c", call, "bash", script, "promql-rules", *before, word)
             self.assertEqual(sorted(set(found) - {"--help", "--version"}), wanted, (before, word))
         # (a file comes by the shell's own completion)
-        self.assertEqual(ran("bash", "-c", call, "bash", script, "promql", "check", ""), [])
-        self.assertEqual(ran("bash", "-c", '. "$1"; complete -p promql', "bash", script)[-1], "promql")
+        self.assertEqual(ran("bash", "-c", call, "bash", script, "promql-rules", "check", ""), [])
+        self.assertEqual(ran("bash", "-c", '. "$1"; complete -p promql-rules', "bash", script)[-1], "promql-rules")
 
     @unittest.skipUnless(shutil.which("zsh"), "there is no zsh here")
     def test_zsh(self):
         script = self.script("zsh")
         subprocess.run(["zsh", "-n", script], check=True, timeout=60)
-        given = 'autoload -Uz compinit; compinit -u -D; . "$1"; echo $_comps[promql]'
-        self.assertEqual(ran("zsh", "-fc", given, "zsh", script), ["_promql"])
+        given = 'autoload -Uz compinit; compinit -u -D; . "$1"; echo $_comps[promql-rules]'
+        self.assertEqual(ran("zsh", "-fc", given, "zsh", script), ["_promql_rules"])
 
     @unittest.skipUnless(shutil.which("fish"), "there is no fish here")
     def test_fish(self):
         script = self.script("fish")
         for before, word, wanted in COMPLETED:
-            line = " ".join(("promql", *before, word))
+            line = " ".join(("promql-rules", *before, word))
             found = ran("env", f"HOME={self.folder}", "fish", "--no-config", "-c", f"source '{script}'; complete -C '{line}' | cut -f 1")
             self.assertEqual(sorted(found), wanted, line)
 

@@ -1,4 +1,4 @@
-"""Tests of `python -m promql` with dashboards, and without a reader of YAML."""
+"""Tests of `promql-rules` with dashboards, and without a reader of YAML."""
 
 import json
 import random
@@ -44,7 +44,8 @@ class Folder(unittest.TestCase):
 class Boards(Folder):
     def test_format(self):
         wanted = (FILES / "board.formatted.json").read_text(encoding="utf-8")
-        ran = run("format", BOARD)
+        pretty = ("format", "--style", "pretty")
+        ran = run(*pretty, BOARD)
         self.assertEqual((ran.status, ran.out), (0, wanted))
         self.assertEqual(
             [line.split("warning: left as it is: ")[1] for line in ran.err.splitlines() if "not looked at" not in line],
@@ -53,8 +54,16 @@ class Boards(Folder):
                 "it has a comment, which would be lost",
             ],
         )
-        self.assertEqual(run("format", "--check", FILES / "board.formatted.json")[:2], (0, ""))
-        self.assertEqual(run("format", "--check", BOARD)[:2], (1, f"{BOARD}\n"))
+        self.assertEqual(run(*pretty, "--check", FILES / "board.formatted.json")[:2], (0, ""))
+        self.assertEqual(run(*pretty, "--check", BOARD)[:2], (19, f"{BOARD}\n"))
+
+    def test_default(self):
+        """Without a style queries are laid out for people, with their comments."""
+        ran = run("format", BOARD)
+        self.assertEqual(ran, run("format", "--style", "people", BOARD))
+        self.assertIn("# down", ran.out)
+        self.assertNotIn("it has a comment", ran.err)
+        self.assertEqual(run("format", "--check", "-", "--dashboard", stdin=ran.out.encode())[:2], (0, ""))
 
     def test_write(self):
         path = self.board('"a+b"', name="other")
@@ -73,7 +82,7 @@ class Boards(Folder):
         for wrong in ('"a + c"', '"a + b", "c": 1', '"a + b', "5", '"a + b # c"', '"a+b "'):
             with mock.patch.object(JsonString, "edit", lambda self, text, wrong=wrong: Edit(self.start, self.end, wrong)):
                 ran = run("format", path)
-            self.assertEqual((ran.status, ran.out), (2, ""), wrong)
+            self.assertEqual((ran.status, ran.out), (12, ""), wrong)
             self.assertIn("would not be read as the same", ran.err)
 
     def test_check(self):
@@ -82,7 +91,7 @@ class Boards(Folder):
         self.assertIn(f"{BOARD}:12:19: skipped: its data source is of the type loki", ran.err)
         given = ("--variable", "job=shop", "--variable", "__rate_interval=5m")
         self.assertEqual(run("check", *given, BOARD)[:2], (0, f"{BOARD}: 8 queries, 1 skipped, no errors\n"))
-        self.assertEqual(run("check", *given[:2], "--variable", "__rate_interval=5x", BOARD).status, 1)
+        self.assertEqual(run("check", *given[:2], "--variable", "__rate_interval=5x", BOARD).status, 4)
         self.assertEqual(run("check", "--dashboard", "-", stdin=BOARD.read_bytes()).status, 0)
 
     def test_statuses(self):
@@ -97,8 +106,8 @@ class Boards(Folder):
                 ran = run(command, path)
                 self.assertEqual((ran.status, ran.out), (2, ""))
                 self.assertTrue(ran.err.startswith(f"{path}{message}"), ran.err)
-        self.assertEqual(run("check", self.board('"a b"')).status, 1)
-        self.assertEqual(run("format", self.board('"a b"')).status, 2)
+        self.assertEqual(run("check", self.board('"a b"')).status, 4)
+        self.assertEqual(run("format", self.board('"a b"')).status, 4)
 
     def test_other_places(self):
         for text in (
@@ -112,17 +121,17 @@ class Boards(Folder):
         ):
             path = self.folder / "a.json"
             path.write_text(text)
-            self.assertEqual(run("check", path)[:2], (3, f"{path}: no queries, no errors\n"))
+            self.assertEqual(run("check", path)[:2], (66, f"{path}: no queries, no errors\n"))
             self.assertEqual(run("format", path)[:2], (0, text))
 
     def test_data_sources(self):
         for source, status in (
-            ('"P1"', 1),
-            ("null", 1),
-            ('{"uid": "p"}', 1),
-            ('{"type": "prometheus"}', 1),
-            ('{"type": "datasource", "uid": "-- Mixed --"}', 1),
-            ('{"type": "grafana-amazonprometheus-datasource"}', 1),
+            ('"P1"', 4),
+            ("null", 4),
+            ('{"uid": "p"}', 4),
+            ('{"type": "prometheus"}', 4),
+            ('{"type": "datasource", "uid": "-- Mixed --"}', 4),
+            ('{"type": "grafana-amazonprometheus-datasource"}', 4),
             ('{"type": "loki"}', 0),
             ('{"type": "elasticsearch"}', 0),
         ):
@@ -131,7 +140,7 @@ class Boards(Folder):
     def test_keys_twice(self):
         path = self.folder / "a.json"
         path.write_text('{"targets": [{}, {"expr": "a b"}], "targets": []}')
-        self.assertEqual(run("check", path).status, 1)
+        self.assertEqual(run("check", path).status, 4)
 
 
 class Places(Folder):
@@ -154,12 +163,12 @@ class Places(Folder):
             ('"rate(a[${x:raw}])"', "x=5m", 0, 0),
             ('"rate(a[[[x]]])"', "x=5m", 0, 0),
             ('"rate(a[[[x:raw]]])"', "x=5m", 0, 0),
-            ('"rate(a[$x]) b"', "x=5m", 1, 14),
-            ('"rate(a[${x}]) b"', "x=5m", 1, 16),
-            ('"rate(a[$x])"', "x=5y5y", 1, 9),
-            ('"$x + c d"', "x=a_long_name", 1, 9),
+            ('"rate(a[$x]) b"', "x=5m", 4, 14),
+            ('"rate(a[${x}]) b"', "x=5m", 4, 16),
+            ('"rate(a[$x])"', "x=5y5y", 4, 9),
+            ('"$x + c d"', "x=a_long_name", 4, 9),
             ('"label_replace(a, \\"b\\", \\"${x}\\", \\"c\\", \\"d\\")"', "x=${x}", 0, 0),
-            ('"a{b=\\"$1\\",c=~\\"d$\\"} b"', "x=1", 1, 24),
+            ('"a{b=\\"$1\\",c=~\\"d$\\"} b"', "x=1", 4, 24),
         ):
             path = self.board(string)
             ran = run("check", "--variable", given, path)
@@ -169,7 +178,7 @@ class Places(Folder):
 
     def test_options(self):
         for wrong in ("x", "=5", "a b=5", "5=x"):
-            self.assertEqual(run("check", "--variable", wrong, BOARD).status, 2)
+            self.assertEqual(run("check", "--variable", wrong, BOARD).status, 64)
 
 
 class Random(Folder):
@@ -195,7 +204,7 @@ class Random(Folder):
                 target["expr"] = promql.format(target["expr"])
             self.assertEqual(json.loads(ran.out), board)
             path.write_text(ran.out, encoding="utf-8")
-            self.assertEqual(run("format", "--check", path)[:2], (0 if targets else 3, ""))
+            self.assertEqual(run("format", "--check", path)[:2], (0 if targets else 66, ""))
 
 
 class WithoutYaml(Folder):

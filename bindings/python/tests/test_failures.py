@@ -31,15 +31,15 @@ FORMATTED = RULE + "  - record: a\n    expr: sum((up))\n"
 FIXED = RULE + "  - record: a\n    expr: sum( up )\n"
 # 2 kB whose layout is longer than a query may be.
 STAIRS = " or ".join(f"n{number}" for number in range(160))
-# What is in a file, and whether `check`, `lint` and `format --write` fail for it.
+# What is in a file, and the statuses of `check`, `lint` and `format --write` for it.
 BAD = {
     "b-broken.yml": ("groups: [", (2, 2, 2)),
     "b-deep.yml": ("groups:\n- " + "[" * 700, (2, 2, 2)),
     "b-deep-query.yml": (RULE + f"  - record: a\n    expr: {'sum by (b) (' * 500}a{')' * 500}\n", (0, 2, 0)),
-    "b-encoding.yml": (b"groups: \xff", (2, 2, 2)),
-    "b-half.yml": (RULE + '  - record: a\n    expr: "{a=\\"\\ud83d\\"}"\n', (1, 2, 2)),
-    "b-long-query.yml": (RULE + f"  - record: a\n    expr: '{'+'.join(['a'] * 20_000)}'\n", (1, 1, 2)),
-    "b-rejected.yml": (RULE + "  - record: a\n    expr: up ==\n", (1, 1, 2)),
+    "b-encoding.yml": (b"groups: \xff", (3, 3, 3)),
+    "b-half.yml": (RULE + '  - record: a\n    expr: "{a=\\"\\ud83d\\"}"\n', (3, 2, 3)),
+    "b-long-query.yml": (RULE + f"  - record: a\n    expr: '{'+'.join(['a'] * 20_000)}'\n", (14, 1, 14)),
+    "b-rejected.yml": (RULE + "  - record: a\n    expr: up ==\n", (4, 1, 4)),
     "b-stairs.yml": (RULE + f"  - record: a\n    expr: {STAIRS}\n", (0, 0, 0)),
     "b-wide-number.yml": (RULE + "  - record: a\n    expr: up offset 1000000000y\n", (0, 2, 0)),
     "x" * 251 + ".yml": (RULE + "  - record: a\n    expr: up\n", (0, 0, 0)),
@@ -102,7 +102,7 @@ class Folders(unittest.TestCase):
 
     def test_would_change(self):
         """What would change is told from what fails."""
-        for options, status in ((("z-good.yml",), 1), (("z-good.yml", "b-rejected.yml"), 2), (("b-deep-query.yml",), 0)):
+        for options, status in ((("z-good.yml",), 19), (("z-good.yml", "b-rejected.yml"), 4), (("b-deep-query.yml",), 0)):
             self.assertEqual(run("format", "--check", *(self.folder / name for name in options)).status, status)
 
     def test_vanishing(self):
@@ -118,7 +118,7 @@ class Folders(unittest.TestCase):
 
         with mock.patch.object(format_command, "read_document", read):
             ran = run("format", "--write", path, self.folder / "z-good.yml")
-        self.assertEqual((ran.status, ran.err), (2, f"{path}: No such file or directory\n"))
+        self.assertEqual((ran.status, ran.err), (5, f"{path}: No such file or directory\n"))
         self.assertEqual((self.folder / "z-good.yml").read_text(), FORMATTED)
 
     def test_full_disk(self):
@@ -133,7 +133,7 @@ class Folders(unittest.TestCase):
 
         with mock.patch("os.fsync", fsync):
             ran = run("format", "--write", path, last)
-        self.assertEqual((ran.status, ran.err), (2, f"{path}: No space left on device\n"))
+        self.assertEqual((ran.status, ran.err), (5, f"{path}: No space left on device\n"))
         self.assertEqual((path.read_text(), last.read_text()), (GOOD, FORMATTED))
 
     def test_unreadable(self):
@@ -168,7 +168,7 @@ class Folders(unittest.TestCase):
 class Layouts(unittest.TestCase):
     def test_stairs(self):
         """A layout that is longer than a query may be is made for people, in rule files and dashboards."""
-        self.assertGreater(len(promql.format(STAIRS)), 32_768)
+        self.assertGreater(len(promql.pretty(STAIRS)), 32_768)
         with TemporaryDirectory() as folder:
             rules, board = Path(folder, "a.yml"), Path(folder, "a.json")
             rules.write_text(RULE + f"  - record: a\n    expr: {STAIRS}\n  - record: b\n    expr: up==1\n")
@@ -199,7 +199,7 @@ class Options(unittest.TestCase):
         with TemporaryDirectory() as folder:
             for name in ("-qup.yml", "--fix.yml", "-v"):
                 Path(folder, name).write_text(GOOD)
-            for words, status in ((["check"], 0), (["lint"], 1), (["format", "--check"], 1), (["format", "--write"], 0), (["lint", "--fix"], 0)):
+            for words, status in ((["check"], 0), (["lint"], 1), (["format", "--check"], 19), (["format", "--write"], 0), (["lint", "--fix"], 0)):
                 command = [sys.executable, "-m", "promql", *words, "--", "-qup.yml", "--fix.yml", "-v"]
                 ran = subprocess.run(command, cwd=folder, env=environment(), capture_output=True, text=True, check=False)
                 self.assertEqual((ran.returncode, "Traceback" in ran.stderr), (status, False), ran)
@@ -209,12 +209,11 @@ class Options(unittest.TestCase):
         """The hooks end their options, and a name of a file is none where a configuration does not."""
         text = (ROOT / ".pre-commit-hooks.yaml").read_text()
         self.assertEqual(text.count("entry:"), text.count("args: [--]\n"))
-        hook = "import sys, promql.hook; sys.exit(promql.hook.program())"
         with TemporaryDirectory() as folder:
             Path(folder, "-qup.yml").write_text(GOOD)
             for ends in ([], ["--"]):
                 ran = subprocess.run(
-                    [sys.executable, "-c", hook, "check", *ends, "-qup.yml"],
+                    [sys.executable, "-m", "promql.hook", "check", *ends, "-qup.yml"],
                     cwd=folder, env=environment(), capture_output=True, text=True, check=False,
                 )  # fmt: skip
                 self.assertEqual((ran.returncode, ran.stdout), (0, "./-qup.yml: 1 rule, no errors\n"))
@@ -223,7 +222,7 @@ class Options(unittest.TestCase):
         for option in (("check", "--jobs"), ("lint", "--jobs"), ("format", "--width"), ("check", "--max-file-patterns"), ("serve", "--port")):
             for number in ("+1", " 1", "1 ", "1_000", "\u0661", "\uff11", "", "1.0", "-1", "0x1", "1e3", "9" * 5_000):
                 with self.subTest(option=option, number=number[:10]):
-                    self.assertEqual(run(option[0], f"{option[1]}={number}", "/nowhere")[:2], (2, ""))
+                    self.assertEqual(run(option[0], f"{option[1]}={number}", "/nowhere")[:2], (64, ""))
         self.assertEqual(run("check", "--jobs=01", "--max-file-patterns=18446744073709551615", "/nowhere").err, "/nowhere: No such file or directory\n")
 
 

@@ -77,7 +77,7 @@ class Queries(Folder):
     def test_without_white_space(self):
         """Where nothing but white space changes in a query with values, it is so with the variables."""
         for query in QUERIES:
-            bare, new = ("".join(text.split()) for text in (with_values(query), promql.format(with_values(query))))
+            bare, new = ("".join(text.split()) for text in (with_values(query), promql.pretty(with_values(query))))
             if bare == new:
                 self.assertEqual("".join(self.formatted(query).split()), "".join(query.split()))
 
@@ -104,8 +104,8 @@ class Queries(Folder):
             path = self.board_of(query)
             ran = run("check", path)
             column = len('{"expr": "') + len(json.dumps(query[: query.rindex(at)])) - 1
-            self.assertEqual((ran.status, ran.err.partition("\n")[0]), (1, f"{path}:2:{column}: {message}"))
-            self.assertEqual(run("format", path).status, 2)
+            self.assertEqual((ran.status, ran.err.partition("\n")[0]), (4, f"{path}:2:{column}: {message}"))
+            self.assertEqual(run("format", path).status, 4)
 
     def test_message(self):
         """A message names the variable, and not what stands in for it."""
@@ -116,7 +116,7 @@ class Queries(Folder):
     def test_values(self):
         """With a value for each variable the query is checked with them; with some, the others are read as without."""
         path = self.board_of("a $op b offset $back")
-        for options, status in (((), 0), (("op=+",), 0), (("op=and", "back=5m"), 0), (("op=+*",), 1), (("op=+", "back=x"), 1)):
+        for options, status in (((), 0), (("op=+",), 0), (("op=and", "back=5m"), 0), (("op=+*",), 4), (("op=+", "back=x"), 4)):
             given = [word for option in options for word in ("--variable", option)]
             self.assertEqual(run("check", *given, path).status, status, options)
         self.assertIn("1 skipped", run("check", "--variable", "back=5m", path).out)
@@ -130,7 +130,8 @@ class Queries(Folder):
 
     def test_comments(self):
         query = 'up{job="$job"} == 0 # it\'s $fine'
-        ran = run("format", self.board_of(query))
+        self.assertEqual(self.formatted(query.replace(" ==", "==")), query)
+        ran = run("format", "--style", "pretty", self.board_of(query))
         self.assertEqual(json.loads(ran.out)["panels"][0]["targets"][0]["expr"], query)
         self.assertIn("it has a comment, which would be lost", ran.err)
 
@@ -175,7 +176,7 @@ class Replaced(unittest.TestCase):
             if not values or not accepts(reading.text.text) or not accepts(reading.variables.text):
                 continue
             width = self.generator.choice((20, 60, 100, 1000))
-            new = reading.variables.come_back(promql.format(reading.variables.text, width=width))
+            new = reading.variables.come_back(promql.pretty(reading.variables.text, width=width))
             if new is None:
                 continue
             accepted += 1
@@ -226,7 +227,7 @@ class StandIns(unittest.TestCase):
         ):
             reading = read(query)
             self.assertEqual(reading.unknown, "")
-            new = reading.variables.come_back(promql.format(reading.variables.text))
+            new = reading.variables.come_back(promql.pretty(reading.variables.text))
             self.assertEqual(spellings(new), spellings(query))
             self.assertEqual(new.count("zqv"), query.count("zqv"))
 
@@ -234,9 +235,9 @@ class StandIns(unittest.TestCase):
         """Where printing makes a stand-in of something else, nothing comes back."""
         variables = read("topk($x, a) + 0x6ad024").variables
         self.assertEqual(variables.text, "topk(7000100, a) + 0x6ad024")
-        self.assertIsNone(variables.come_back(promql.format(variables.text)))
+        self.assertIsNone(variables.come_back(promql.pretty(variables.text)))
         variables = read("rate(a[$x]) + rate(b[4271100ms])").variables
-        self.assertIsNone(variables.come_back(promql.format(variables.text)))
+        self.assertIsNone(variables.come_back(promql.pretty(variables.text)))
 
     def test_at_random(self):
         """Whatever is accepted comes back with the same variables, and is read and laid out as before; nothing raises."""
@@ -257,7 +258,7 @@ class StandIns(unittest.TestCase):
         reading = read(query)
         try:
             promql.check(reading.text.text)
-            text = promql.format(reading.variables.text)
+            text = promql.pretty(reading.variables.text)
         except promql.QueryError:
             return False
         new = reading.variables.come_back(text)
@@ -265,7 +266,7 @@ class StandIns(unittest.TestCase):
             return False
         self.assertEqual(spellings(new), spellings(query), query)
         again = read(new)
-        self.assertEqual(again.variables.come_back(promql.format(again.variables.text)), new, query)
+        self.assertEqual(again.variables.come_back(promql.pretty(again.variables.text)), new, query)
         self.assertEqual(reading.variables.put_back(reading.variables.text), query)
         return True
 

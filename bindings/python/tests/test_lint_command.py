@@ -1,4 +1,4 @@
-"""Tests of `python -m promql lint`."""
+"""Tests of `promql-rules lint`."""
 
 import json
 import random
@@ -76,7 +76,7 @@ class Queries(Folder):
         self.assertEqual((ran.status, ran.out), (1, "up{a='b',a='c'}\n"))
         self.assertIn("<stdin>:1:10: error P108: ", ran.err)
         ran = run("lint", stdin=b"up\xff")
-        self.assertEqual((ran.status, ran.out, ran.err), (2, "", "-: not UTF-8 at byte 2\n"))
+        self.assertEqual((ran.status, ran.out, ran.err), (3, "", "<stdin>:1:3: not UTF-8 at byte 2\nup\n  ^\n"))
 
     def test_rejected(self):
         ran = run("lint", stdin=b"sum(\n  rate(foo))")
@@ -109,7 +109,7 @@ class Queries(Folder):
         self.assertEqual(run("lint", "--query", query, "--select", "all", "--ignore", "P").status, 0)
         for words in ("P9", "x", ","):
             ran = run("lint", "--query", query, "--select", words)
-            self.assertEqual(ran.status, 2)
+            self.assertEqual(ran.status, 64)
             self.assertIn("no rule has a code that begins with", ran.err)
         listed = run("lint", "--rules").out.splitlines()
         self.assertEqual([line[:4] for line in listed], sorted(lint.RULES))
@@ -127,7 +127,7 @@ class Queries(Folder):
         self.assertEqual((second["file"], second["code"], second["fix"]), ("<query 2>", "P001", None))
         self.assertEqual(json.loads(run("lint", "--output", "json", "--query", "up").out), [])
         for words in (("--query", "up"), (), ("-",)):
-            self.assertEqual(run("lint", "--fix", "--output", "json", *words).status, 2)
+            self.assertEqual(run("lint", "--fix", "--output", "json", *words).status, 64)
 
     def test_sarif(self):
         ran = run("lint", "--output", "sarif", "--query", "up{a=~'b'} or (up)")
@@ -315,7 +315,7 @@ class Files(Folder):
         self.assertIn("this is no rule file", ran.err)
         self.assertEqual(run("lint", self.file("a: [")).status, 2)
         self.assertEqual(run("lint", self.folder / "none.yml").status, 2)
-        self.assertEqual(run("lint", self.folder).status, 3)
+        self.assertEqual(run("lint", self.folder).status, 66)
 
     def test_styles(self):
         """Fixed files have the fixed queries, and all else as it was."""

@@ -509,7 +509,7 @@ class Protocol(unittest.TestCase):
     def test_status_of_command(self):
         command = [sys.executable, "-m", "promql", "lsp", "--prometheus", "http://example.org:9090"]
         ran = subprocess.run(command, stdin=subprocess.DEVNULL, stderr=subprocess.PIPE, cwd=ROOT / "bindings/python", timeout=30)
-        self.assertEqual(ran.returncode, 2)
+        self.assertEqual(ran.returncode, 64)
         self.assertIn(b"not the URL of a server on this machine", ran.stderr)
 
     def test_other_reader(self):

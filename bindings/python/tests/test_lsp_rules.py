@@ -88,7 +88,7 @@ class Files(unittest.TestCase):
         return [lines.text[slice(*lines.span(it["range"]))] for it in found]
 
     def test_diagnostics(self):
-        """They are those of `python -m promql check`, at their places."""
+        """They are those of `promql-rules check`, at their places."""
         for path in sorted(FILES.glob("*.yml")):
             text = path.read_bytes().decode()
             found = self.client.open(path.as_uri(), text, "yaml")
@@ -118,22 +118,22 @@ class Files(unittest.TestCase):
         self.assertIn("Selects the series of `up`", self.at("hover", BROKEN, BROKEN.index("up{"), OTHER)["contents"]["value"])
 
     def test_layout(self):
-        """It is that of `python -m promql format`, but that a query with a comment is laid out for people."""
-        people = Client("--style", "people")
+        """It is that of `promql-rules format`, but that a query with a comment is laid out for people in the style `pretty`, too."""
+        pretty = Client("--style", "pretty")
         for path in sorted(FILES.glob("*.yml")):
             if path.name.endswith(".formatted.yml"):
                 continue
-            text, formatted = self.formatted(self.client, path), run("format", path)
+            text, formatted = self.formatted(pretty, path), run("format", "--style", "pretty", path)
             if "it has a comment" in formatted.err:
                 with tempfile.NamedTemporaryFile("w", suffix=".yml", newline="") as file:
                     file.write(text)
                     file.flush()
-                    self.assertEqual(run("format", file.name).out, text)
+                    self.assertEqual(run("format", "--style", "pretty", file.name).out, text)
                     self.assertNotEqual(text, formatted.out)
             else:
                 self.assertEqual(text, path.with_suffix(".formatted.yml").read_bytes().decode(), path)
-            self.assertEqual(self.formatted(people, path), run("format", "--style", "people", path).out, path)
-        self.assertEqual(people.close(), 0)
+            self.assertEqual(self.formatted(self.client, path), run("format", path).out, path)
+        self.assertEqual(pretty.close(), 0)
 
     def formatted(self, client, path):
         text = path.read_bytes().decode()
@@ -172,20 +172,20 @@ class Files(unittest.TestCase):
         text = lsp_files.rule_file(200).replace(" / ", "  / ")
         rules, _ = problems_of(text)
         layouts = RuleLayouts()
-        self.assertIsNone(layouts.edits(text, rules, "pretty"))
+        self.assertIsNone(layouts.edits(text, rules, "people"))
         whole = rule_file_edits(text, None)
         self.assertGreater(len(whole), 50)
         layouts.learn(text, rules, whole)
         with mock.patch.object(layout, "_edits_in", side_effect=AssertionError):
-            self.assertEqual(layouts.edits(text, rules, "pretty"), whole)
+            self.assertEqual(layouts.edits(text, rules, "people"), whole)
         new = edited(text, whole)
         rules, _ = problems_of(new)
         with mock.patch.object(layout, "_edits_in", side_effect=AssertionError):
-            self.assertEqual(layouts.edits(new, rules, "pretty"), [])
+            self.assertEqual(layouts.edits(new, rules, "people"), [])
         changed = new.replace(" > ", "  >  ", 1)
         self.assertNotEqual(changed, new)
         rules, _ = problems_of(changed)
-        self.assertEqual(layouts.edits(changed, rules, "pretty"), rule_file_edits(changed, None))
+        self.assertEqual(layouts.edits(changed, rules, "people"), rule_file_edits(changed, None))
 
     def test_layout_of_part(self):
         text = BROKEN.replace("job:up:sum == 0", "job:up:sum  ==  0").replace("< 3", "<   3")

@@ -291,8 +291,8 @@ class Command(unittest.TestCase):
         for words in ((), ("nothing",), ("serve", "--port", "65536"), ("serve", "--port", "-1"), ("serve", "more")):
             with self.start(*words) as ended:
                 said = ended.communicate(timeout=PATIENCE)[1]
-            self.assertEqual(ended.returncode, 2, words)
-            self.assertIn("usage: python -m promql", said)
+            self.assertEqual(ended.returncode, 64, words)
+            self.assertIn("usage: promql-rules", said)
 
 
 if __name__ == "__main__":

@@ -48,12 +48,12 @@ class Texts(unittest.TestCase):
         self.assertEqual(promql.canonical("{a='é'}or b"), '{a="é"} or b')
 
     def test_format(self):
-        self.assertEqual(promql.format("sum(a)/sum(b)", width=8), "  sum(a)\n/\n  sum(b)")
-        self.assertEqual(promql.format("1+2", level=1), "  1 + 2")
-        self.assertEqual(promql.format("1+2", width=2**64 - 1, level=512), "  " * 512 + "1 + 2")
+        self.assertEqual(promql.pretty("sum(a)/sum(b)", width=8), "  sum(a)\n/\n  sum(b)")
+        self.assertEqual(promql.pretty("1+2", level=1), "  1 + 2")
+        self.assertEqual(promql.pretty("1+2", width=2**64 - 1, level=512), "  " * 512 + "1 + 2")
         for wrong in ({"level": -1}, {"level": 513}, {"width": -1}, {"width": 2**64}):
             with self.assertRaises(ValueError):
-                promql.format("1", **wrong)
+                promql.pretty("1", **wrong)
 
     def test_parse(self):
         selector = {"matchers": [], "name": "foo", "offset": -300000, "startOrEnd": None, "timestamp": None}
@@ -127,7 +127,7 @@ class Texts(unittest.TestCase):
             promql.enforce("a", r'b="\xc3"')
         self.assertRegex(str(of_matcher.exception), "^Prometheus reads the matcher otherwise: the escape at byte 3 ")
         self.assertEqual(promql.canonical(query), line)
-        self.assertEqual(promql.format(query), line)
+        self.assertEqual(promql.pretty(query), line)
         with self.assertRaises(ValueError):
             promql.set_target("prometheus-4")
         promql.set_target("rules")
@@ -169,7 +169,7 @@ class Texts(unittest.TestCase):
         promql.set_limits(max_output=5)
         try:
             self.assertEqual(promql.canonical("a+b"), "a + b")
-            for call in (promql.canonical, promql.format, promql.parse):
+            for call in (promql.canonical, promql.pretty, promql.parse):
                 with self.assertRaises(promql.LongOutputError) as raised:
                     call("a + bc")
                 self.assertRegex(str(raised.exception), r"^output is too long: \d+ bytes, at most 5$")
@@ -390,7 +390,7 @@ class Texts(unittest.TestCase):
     def test_long_texts(self):
         query = "+".join(["x"] * 500)
         self.assertEqual(promql.canonical(query), " + ".join(["x"] * 500))
-        self.assertGreater(len(promql.format(query, width=1)), _library.FIRST_SIZE)
+        self.assertGreater(len(promql.pretty(query, width=1)), _library.FIRST_SIZE)
         name = "x" * 1_000_000
         promql.set_limits(max_len=len(name))
         try:
@@ -408,7 +408,7 @@ class Texts(unittest.TestCase):
 class Errors(unittest.TestCase):
     def test_places(self):
         for query, line, column, message, snippet in REJECTED:
-            for call in promql.check, promql.canonical, promql.format, promql.parse:
+            for call in promql.check, promql.canonical, promql.pretty, promql.parse:
                 with self.assertRaises(promql.QueryError) as raised:
                     call(query)
                 error = raised.exception
@@ -546,7 +546,7 @@ def outcome(call, query):
 
 
 class Stacks(unittest.TestCase):
-    CALLS = (promql.canonical, promql.format, promql.check, promql.collect, lambda query: promql.enforce(query, "a='1'"))
+    CALLS = (promql.canonical, promql.pretty, promql.check, promql.collect, lambda query: promql.enforce(query, "a='1'"))
 
     def outcomes(self):
         return [outcome(call, query) for query in DEEP for call in self.CALLS]

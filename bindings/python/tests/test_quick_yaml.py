@@ -237,7 +237,7 @@ class Jobs(Folder):
 
     def test_write(self):
         names = self.files(20)
-        self.assertEqual(run("format", "--write", "--jobs", 3, *names).status, 2)
+        self.assertEqual(run("format", "--write", "--jobs", 3, *names).status, 4)
         wanted = [file_of(("up == 0", "up == 0", "up ==")[number % 3]) for number in range(20)]
         self.assertEqual([path.read_text() for path in names], wanted)
 
@@ -269,7 +269,7 @@ class Jobs(Folder):
 
     def test_options(self):
         for wrong in ("0", "-1", "x", "1000", ""):
-            self.assertEqual(run("check", "--jobs", wrong, self.folder / "a.yml").status, 2)
+            self.assertEqual(run("check", "--jobs", wrong, self.folder / "a.yml").status, 64)
 
 
 if __name__ == "__main__":

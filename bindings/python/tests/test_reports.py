@@ -65,14 +65,14 @@ class Reports(Folder):
         path = self.file(FINDINGS, "a.yml")
         ran = run("format", "--check", "--output", "json", path)
         self.assertEqual([(it["line"], it["code"], it["message"]) for it in json.loads(ran.out)], [(5, "layout", "laid out otherwise")])
-        self.assertEqual(ran.status, 1)
-        self.assertEqual(run("format", "--output", "json", path).status, 2)
+        self.assertEqual(ran.status, 19)
+        self.assertEqual(run("format", "--output", "json", path).status, 64)
         self.assertEqual(run("format", "--write", "--output", "json", path)[:2], (0, "[]\n"))
 
     def test_sarif(self):
         ran = run("check", "--output", "sarif", self.folder)
         (made,) = json.loads(ran.out)["runs"]
-        self.assertEqual(made["tool"]["driver"]["name"], "promql check")
+        self.assertEqual(made["tool"]["driver"]["name"], "promql-rules check")
         self.assertEqual([it["id"] for it in made["tool"]["driver"]["rules"]], ["P001", "file", "rule", "unread"])
         self.assertEqual([it["level"] for it in made["results"]], ["error", "error", "warning", "error"])
         self.assertFalse(made["invocations"][0]["executionSuccessful"])
@@ -108,7 +108,7 @@ class Reports(Folder):
         self.assertEqual(run("check", self.file("groups: []\n")).err, NO_QUERY)
         for kind in FORMATS:
             ran = run("check", "--output", kind, self.file("groups: []\n"))
-            self.assertEqual((ran.status, ran.err), (3, NO_QUERY))
+            self.assertEqual((ran.status, ran.err), (66, NO_QUERY))
             self.assertIn("no query was found in 1 file", ran.out)
 
     def test_fail_on(self):
@@ -119,8 +119,8 @@ class Reports(Folder):
         twice = self.file(AFTER_ALERT + "  - alert: B\n    expr: up\n")
         for severity, status in (("error", 0), ("warning", 1)):
             self.assertEqual(run("check", "--fail-on", severity, twice).status, status)
-        self.assertEqual(run("check", "--fail-on", "error", self.file(BROKEN)).status, 1)
-        self.assertEqual(run("check", "--fail-on", "none", twice).status, 2)
+        self.assertEqual(run("check", "--fail-on", "error", self.file(BROKEN)).status, 4)
+        self.assertEqual(run("check", "--fail-on", "none", twice).status, 64)
 
 
 class Comments(Folder):

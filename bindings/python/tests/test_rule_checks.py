@@ -19,7 +19,7 @@ from syntax_errors import NO_OPERAND
 from test_rule_files import NO_QUERY, Folder, aliases
 
 # The statuses of a file without faults: that with queries, and that without one.
-TAKEN = (0, 3)
+TAKEN = (0, 66)
 # Where packages of Debian have rule files.
 PLACES = ("/etc/prometheus", "/usr/share/doc", "/usr/share/gocode/src/github.com")
 # Pieces of templates, right and wrong.

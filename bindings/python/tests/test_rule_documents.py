@@ -77,7 +77,7 @@ class Objects(Folder):
     def test_faults(self):
         path = self.file(OBJECT.replace("==0", "==").replace("5m", "5"))
         ran = run("check", path)
-        self.assertEqual((ran.status, ran.out), (1, f"{path}: 1 rule, 2 errors\n"))
+        self.assertEqual((ran.status, ran.out), (4, f"{path}: 1 rule, 2 errors\n"))
         self.assertIn(f"{path}:11:33: {NO_OPERAND}\n", ran.err)
         self.assertIn(f"{path}:12:16: `for` is not a duration\n", ran.err)
 
@@ -87,7 +87,7 @@ class Objects(Folder):
         self.assertEqual(run("check", path), (0, f"{path}: 2 rules, no errors\n", ""))
         note = f"{path}:1:1: skipped: no rules: a `Service` of Kubernetes\n"
         self.assertEqual(run("check", "-v", path).err, note)
-        self.assertEqual(run("format", "--check", "--verbose", path), (1, f"{path}\n", note))
+        self.assertEqual(run("format", "--check", "--verbose", path), (19, f"{path}\n", note))
         alone = self.file(SERVICE)
         self.assertEqual(run("check", alone)[:2], (1, f"{alone}: no rules, 1 error\n"))
         self.assertEqual(run("format", "--write", alone).status, 2)
@@ -105,7 +105,7 @@ class Objects(Folder):
     def test_without_groups(self):
         for spec in ("spec: {}", "spec:", "spec: {groups: }"):
             path = self.file(f"apiVersion: monitoring.coreos.com/v1\nkind: PrometheusRule\n{spec}\n")
-            self.assertEqual(run("check", path), (3, f"{path}: no rules, no errors\n", NO_QUERY), spec)
+            self.assertEqual(run("check", path), (66, f"{path}: no rules, no errors\n", NO_QUERY), spec)
 
 
 class Tests(Folder):
@@ -118,7 +118,7 @@ class Tests(Folder):
     def test_faults(self):
         path = self.file(TESTS.replace("sum(up)by", "sum(up by").replace("expr: |", "query: |"))
         ran = run("check", path)
-        self.assertEqual((ran.status, ran.out), (1, f"{path}: 1 query, 2 errors\n"))
+        self.assertEqual((ran.status, ran.out), (4, f"{path}: 1 query, 2 errors\n"))
         self.assertIn(f"{path}:10:22: unclosed left parenthesis\n", ran.err)
         self.assertIn(f"{path}:13:9: a test of a query without `expr`\n", ran.err)
 
@@ -211,7 +211,7 @@ class Folders(Folder):
     def test_not_read(self):
         """A file that cannot be read may be a rule file: that it is not UTF-8 is said, and so is what is wrong with rules."""
         ran = run("check", self.folder)
-        self.assertEqual((ran.status, ran.err), (2, f"{self.folder}/latin.yml: not UTF-8 at byte 3\n"))
+        self.assertEqual((ran.status, ran.err), (3, f"{self.folder}/latin.yml:1:4: not UTF-8 at byte 3\na: \n   ^\n"))
         (self.folder / "latin.yml").write_text("groups:\n- name: {{ a }}\n  b\n")
         self.assertIn(f"{self.folder}/latin.yml:", run("check", self.folder).err)
         self.assertEqual(run("check", self.folder / "helm.yaml").status, 2)
@@ -219,7 +219,7 @@ class Folders(Folder):
     def test_dashboards(self):
         (self.folder / "board.json").write_text('{"panels": [{"targets": [{"expr": "up ="}]}]}')
         ran = run("check", "--dashboard", self.folder)
-        self.assertEqual((ran.status, ran.out), (1, f"{self.folder}/board.json: 1 query, 1 error\n"))
+        self.assertEqual((ran.status, ran.out), (4, f"{self.folder}/board.json: 1 query, 1 error\n"))
 
     def test_nothing(self):
         empty = self.folder / "none"

@@ -1,4 +1,4 @@
-"""Tests of `python -m promql` with rule files."""
+"""Tests of `promql-rules` with rule files."""
 
 import difflib
 import os
@@ -79,6 +79,7 @@ def aliases(groups, rules):
     """A rule file of so many groups, all aliases of one, with so many rules, all aliases of one."""
     return f"r: &r [&q {{expr: up}}{', *q' * (rules - 1)}]\ng: &g {{name: a, rules: *r}}\ngroups: [*g{', *g' * (groups - 1)}]\n"
 
+PRETTY = ("format", "--style", "pretty")
 NO_QUERY = "no query was found in 1 file\n"
 
 
@@ -102,16 +103,28 @@ class Formatted(Folder):
             with self.subTest(name):
                 wanted = (FILES / f"{name}.formatted.yml").read_bytes()
                 path = self.file((FILES / f"{name}.yml").read_bytes())
-                self.assertEqual(run("format", path).out.encode(), wanted)
-                self.assertEqual(run("format", "--write", path).status, 0)
+                self.assertEqual(run(*PRETTY, path).out.encode(), wanted)
+                self.assertEqual(run(*PRETTY, "--write", path).status, 0)
                 self.assertEqual(path.read_bytes(), wanted)
                 self.assertEqual(run("check", "--queries", path).status, 0)
 
     def test_again(self):
         for name in NAMES:
             path = FILES / f"{name}.formatted.yml"
-            self.assertEqual(run("format", path).out.encode(), path.read_bytes(), name)
-            self.assertEqual(run("format", "--check", path)[:2], (0, ""), name)
+            self.assertEqual(run(*PRETTY, path).out.encode(), path.read_bytes(), name)
+            self.assertEqual(run(*PRETTY, "--check", path)[:2], (0, ""), name)
+
+    def test_default(self):
+        """Without a style queries are laid out for people, with their comments, and line ends and marks of the file stay."""
+        for name in NAMES:
+            path = self.file((FILES / f"{name}.yml").read_bytes())
+            self.assertEqual(run("format", path), run("format", "--style", "people", path))
+            before = path.read_bytes()
+            self.assertEqual(run("format", "--write", path).status, 0, name)
+            after = path.read_bytes()
+            self.assertEqual([it in after for it in (b"\r\n", b"\xef\xbb\xbf")], [it in before for it in (b"\r\n", b"\xef\xbb\xbf")], name)
+            self.assertEqual(re.findall(rb"[^\r]\n", after) == [], re.findall(rb"[^\r]\n", before) == [], name)
+            self.assertEqual((run("format", "--check", path).status, run("check", "--queries", path).status), (0, 0), name)
 
     def test_only_queries_change(self):
         key = re.compile(r"^[ -]*\"?(\w+)\"?:")
@@ -141,19 +154,35 @@ class Formatted(Folder):
         # The column of the query is the eleventh.
         at_limit = len(TWO_LINES) + 10
         self.assertEqual(run("format", "--check", "--width", at_limit, path).status, 0)
-        self.assertEqual(run("format", "--check", "--width", at_limit - 1, path).status, 1)
+        self.assertEqual(run("format", "--check", "--width", at_limit - 1, path).status, 19)
         self.assertEqual(run("format", "--width", 0, path).status, 0)
         for wrong in ("-1", "x"):
-            self.assertEqual(run("format", "--width", wrong, path).status, 2)
+            self.assertEqual(run("format", "--width", wrong, path).status, 64)
+        for wrong in (("--width", 65_536), ("--indent", 17)):
+            self.assertEqual(run("format", *wrong, path)[:2], (9, ""))
+        self.assertEqual(run("format", "--style", "pretty", "--width", 65_536, path).status, 0)
+
+    def test_indentation(self):
+        ran = run("format", "--width", 20, "--indent", 4, self.file(file_of("sum(aaaaaaaaa + bbbbbbbbbbbb)")))
+        self.assertIn("\n          aaaaaaaaa\n", ran.out)
+
+    def test_keep_spelling(self):
+        """Numbers, strings and the order of matchers stay, and so does what a Prometheus reads otherwise."""
+        path = self.file(file_of("", "|\n      absent(foo{b='1',  a=\"\\xe9\"}offset 60s)/1e3 # c\n"))
+        self.assertEqual(run("format", path).status, 23)
+        wanted = file_of("", "|\n      absent(foo{b='1',a=\"\\xe9\"} offset 60s) / 1e3 # c\n")
+        self.assertEqual(run("format", "--keep-spelling", path), (0, wanted, ""))
+        self.assertEqual(run("format", "--keep-spelling", "--style", "pretty", path).status, 64)
+        self.assertEqual(run("format", "--keep-spelling", "--enforce", "a='b'", path).status, 64)
 
     def test_unprintable(self):
         for style in ('"a{b=\\"\\x01\\x85\\u2028\\"}+1"', '"a{b=\\"\\x01\\"}\\\n  + 1"'):
             text = run("format", self.file(file_of("", style))).out
             self.assertRegex(text, r'expr: "a\{b=\\"\\x01.*\\"\} \+ 1"\n')
         long = 'a{b=\\"\\x01\\"}+' + "b" * 100
-        text = run("format", self.file(file_of("", f'"{long}"'))).out
+        text = run(*PRETTY, self.file(file_of("", f'"{long}"'))).out
         self.assertIn('"  a{b=\\"\\x01\\"}\\n+\\n  b', text)
-        self.assertEqual(run("format", self.file(text)).out, text)
+        self.assertEqual(run(*PRETTY, self.file(text)).out, text)
 
     def test_block_of_unprintable(self):
         path = self.file(RULE + '    expr: |  # c\n      a{b="\\x01"}\n      +1\n\n    for: 5m\n')
@@ -167,8 +196,8 @@ class Formatted(Folder):
 
     def test_many_signs(self):
         query = "foo{a=\"" + "#" * 30_000 + "\"}"
-        self.assertEqual(run("format", "--check", self.file(file_of(query))).status, 0)
-        self.assertIn("it has a comment", run("format", self.file(f"groups: [{{rules: [{{expr: '{query} #'}}]}}]\n")).err)
+        self.assertEqual(run(*PRETTY, "--check", self.file(file_of(query))).status, 0)
+        self.assertIn("it has a comment", run(*PRETTY, self.file(f"groups: [{{rules: [{{expr: '{query} #'}}]}}]\n")).err)
 
     def test_comment_below(self):
         inside = RULE + "    expr: |\n        a+b\n      # farther in than its key\n"
@@ -185,8 +214,8 @@ class Formatted(Folder):
         text = f"groups:\n- rules:\n  - ? expr\n    : {TWO_LINES}\n"
         path = self.file(text)
         for option in ("--write", "--check", "--diff"):
-            ran = run("format", option, path)
-            self.assertEqual((ran.status, ran.out, path.read_text()), (2, "", text))
+            ran = run(*PRETTY, option, path)
+            self.assertEqual((ran.status, ran.out, path.read_text()), (12, "", text))
             self.assertEqual(ran.err, f"{path}: left as it is: formatted, it would not be read as the same\n")
 
     def test_comparison(self):
@@ -203,7 +232,7 @@ class Formatted(Folder):
             with mock.patch.object(Scalar, "edit", lambda self, text, wrong=wrong: Edit(self.start - 6, self.end, wrong)):
                 ran = run("format", self.file(RULE + "    expr: a+b\n    labels: {}\n"))
             harmless = wrong == "expr: a + b  # c"
-            self.assertEqual((ran.status, "would not be read" in ran.err), (0, False) if harmless else (2, True), wrong)
+            self.assertEqual((ran.status, "would not be read" in ran.err), (0, False) if harmless else (12, True), wrong)
 
     def test_no_line_end(self):
         path = self.file(RULE + f"    expr: {TWO_LINES}")
@@ -214,11 +243,11 @@ class Formatted(Folder):
 
 
 class People(Folder):
-    """`format --style people`."""
+    """`format`, whose style is `people`."""
 
     def formatted(self, query):
         path = self.file(file_of("", "|\n" + "".join(f"      {line}\n" for line in query.split("\n"))))
-        return run("format", "--style", "people", path)
+        return run("format", path)
 
     def test_comments(self):
         for query, wanted in (
@@ -230,25 +259,25 @@ class People(Folder):
             with self.subTest(query):
                 ran = self.formatted(query)
                 self.assertEqual(ran, (0, file_of("", "|\n" + "".join(f"      {line}\n" for line in wanted.split("\n"))), ""))
-                self.assertEqual(run("format", "--style", "people", "--check", self.file(ran.out)), (0, "", ""))
+                self.assertEqual(run("format", "--check", self.file(ran.out)), (0, "", ""))
 
     def test_no_indentation_is_told(self):
         """No line before the others is farther in, so that the block need not say how far in it is."""
-        text = run("format", "--style", "people", self.file(file_of(TWO_LINES))).out
+        text = run("format", self.file(file_of(TWO_LINES))).out
         self.assertIn("    expr: |-\n      sum by (job) (rate(errors", text)
         self.assertIn('\n      / sum by (job) (rate(requests_total{job="api"}[5m]))\n', text)
-        self.assertEqual(run("format", "--style", "people", "--check", self.file(text)), (0, "", ""))
-        self.assertIn("expr: |2-\n", run("format", self.file(text)).out)
+        self.assertEqual(run("format", "--check", self.file(text)), (0, "", ""))
+        self.assertIn("expr: |2-\n", run(*PRETTY, self.file(text)).out)
 
     def test_in_braces(self):
         """A comment ends with its line, so that a query of several lines stays as it is where there are no blocks."""
         text = 'groups: [{name: a, rules: [{record: b, expr: "up{} # c"}, {record: c, expr: "up # c\\n+ 1"}, {record: d, expr: a+b}]}]\n'
-        ran = run("format", "--style", "people", self.file(text))
+        ran = run("format", self.file(text))
         self.assertEqual((ran.status, ran.out), (0, text.replace("a+b", "a + b")))
         self.assertEqual(ran.err.count("it has a comment, and has to stay on one line here"), 1)
 
     def test_enforced(self):
-        ran = run("format", "--style", "people", "--enforce", "a='b'", self.file(file_of("", "|\n      up # c\n")))
+        ran = run("format", "--enforce", "a='b'", self.file(file_of("", "|\n      up # c\n")))
         self.assertEqual(ran.status, 2)
         self.assertIn("not enforced: it has a comment, which would be lost", ran.err)
 
@@ -269,10 +298,10 @@ class Comments(Folder):
         ):
             with self.subTest(query):
                 text = file_of("", "|\n" + "".join(f"      {line}\n" for line in query.split("\n")))
-                ran = run("format", self.file(text))
+                ran = run(*PRETTY, self.file(text))
                 self.assertEqual((ran.status, ran.out), (0, text))
                 self.assertIn("a.yml:6:7: warning: left as it is: it has a comment", ran.err)
-                self.assertEqual(run("format", "--check", self.file(text)).status, 0)
+                self.assertEqual(run(*PRETTY, "--check", self.file(text)).status, 0)
 
     def test_in_strings(self):
         for query in (
@@ -300,7 +329,7 @@ class Places(Folder):
                 with self.subTest(name, line_end=line_end):
                     path = self.file((RULE + lines + "\n").replace("\n", line_end))
                     ran = run("check", "--queries", path)
-                    self.assertEqual(ran.status, 1)
+                    self.assertEqual(ran.status, 4)
                     self.assertEqual(ran.err.count(str(path)), 1, ran.err)
                     line, column = map(int, place.split(":"))
                     blank = re.sub(r"[^\t]", " ", shown[: column - 1])
@@ -321,7 +350,7 @@ class Places(Folder):
     def test_surrogates(self):
         path = self.file(file_of("", '"a{b=\\"\\ud800\\"}"'))
         self.assertIn(":5:18: half of a surrogate pair", run("check", path).err)
-        self.assertEqual(run("format", path).status, 2)
+        self.assertEqual(run("format", path).status, 3)
 
     def test_other_spaces(self):
         """No-break spaces and form feeds are left to the library."""
@@ -334,7 +363,7 @@ class Places(Folder):
         ):
             path = self.file(file_of("", style))
             self.assertTrue(run("check", path).err.startswith(f"{path}:{place}: "), run("check", path).err)
-            self.assertEqual(run("format", path).status, 2)
+            self.assertEqual(run("format", path).status, 4)
 
     def test_escapes(self):
         """Each escape of YAML is followed."""
@@ -401,7 +430,7 @@ class Checks(Folder):
             "---\n---\n",
         ):
             path = self.file(text)
-            self.assertEqual(run("check", "--queries", path), (3, f"{path}: no rules, no errors\n", NO_QUERY), text)
+            self.assertEqual(run("check", "--queries", path), (66, f"{path}: no rules, no errors\n", NO_QUERY), text)
             self.assertEqual(run("format", path)[:2], (0, text), text)
 
     def test_unreadable(self):
@@ -419,7 +448,7 @@ class Checks(Folder):
             path = self.file(data)
             for command in ("check", "format"):
                 ran = run(command, path)
-                self.assertEqual((ran.status, ran.out), (2, ""), data)
+                self.assertEqual((ran.status, ran.out), (3 if b"\xff" in data else 2, ""), data)
                 self.assertTrue(ran.err.startswith(str(path)), ran.err)
                 self.assertIn(message, ran.err)
         self.assertEqual(run("check", self.folder / "none.yml").err, f"{self.folder}/none.yml: No such file or directory\n")
@@ -459,10 +488,10 @@ class Checks(Folder):
         messy, none = self.file(file_of("up==0"), "messy.yml"), self.folder / "none.yml"
         for status, commands in (
             (0, (("check", fine, messy), ("format", "--check", fine), ("format", messy), ("format", "--diff", fine))),
-            (1, (("check", fine, wrong), ("format", "--check", fine, messy), ("format", "--diff", messy))),
-            (2, (("check", none, wrong), ("check", wrong, none), ("format", "--check", messy, wrong), ("format", wrong))),
-            (2, (("format", "--write", none), ("format", "--check", "--write", fine), ("check", "--variable", "a", fine))),
-            (2, ((), ("check",), ("other",))),
+            (4, (("check", fine, wrong), ("format", "--check", messy, wrong), ("format", wrong))),
+            (19, (("format", "--check", fine, messy), ("format", "--diff", messy))),
+            (2, (("check", none, wrong), ("check", wrong, none), ("format", "--write", none))),
+            (64, (("format", "--check", "--write", fine), ("check", "--variable", "a", fine), (), ("check",), ("other",))),
         ):
             for arguments in commands:
                 self.assertEqual(run(*arguments).status, status, arguments)
@@ -470,7 +499,7 @@ class Checks(Folder):
 
     def test_program(self):
         wrong = self.file(file_of("up =="))
-        for arguments, status in ((["check", wrong], 1), (["--help"], 0), (["format", wrong], 2), (["check", "--help"], 0)):
+        for arguments, status in ((["check", wrong], 4), (["--help"], 0), (["format", wrong], 4), (["check", "--help"], 0)):
             command = [sys.executable, "-m", "promql", *arguments]
             ran = subprocess.run(command, stdout=subprocess.PIPE, stderr=subprocess.PIPE, check=False)
             self.assertEqual(ran.returncode, status, ran)
@@ -517,7 +546,7 @@ class Writing(Folder):
         for call in ("os.replace", "os.fsync", "os.fchmod", "tempfile.mkstemp"):
             with mock.patch(call, side_effect=OSError(28, "No space left on device")):
                 ran = run("format", "--write", path)
-            self.assertEqual((ran.status, ran.err), (2, f"{path}: No space left on device\n"))
+            self.assertEqual((ran.status, ran.err), (5, f"{path}: No space left on device\n"))
             self.assertEqual(path.read_text(), self.TEXT)
             self.assert_alone("a.yml")
 
@@ -551,7 +580,7 @@ class Writing(Folder):
             writer.start()
             ran = run(*command, path)
             writer.join()
-            self.assertEqual(ran.status, {"check": 0, "--check": 1, "--write": 2}[command[-1]], ran)
+            self.assertEqual(ran.status, {"check": 0, "--check": 19, "--write": 2}[command[-1]], ran)
         self.assertEqual(ran.err, f"{path}: left as it is: it is no regular file\n")
         self.assertTrue(stat.S_ISFIFO(path.stat().st_mode))
 
@@ -573,13 +602,13 @@ class Writing(Folder):
         many = self.file(file_of("up ==") + "  - alert: B\n    expr: up==\n" * 3000, "many.yml")
         for command, status, said in (
             (f"check {many} 2>&1 | head -n 1 >/dev/null; exit ${{PIPESTATUS[0]}}", 128 + signal.SIGPIPE, ""),
-            (f"check {self.file(self.TEXT)} >/dev/full", 2, "standard output: No space left on device\n"),
-            (f"format {self.file(self.TEXT)} >/dev/full", 2, f"{self.folder}/a.yml: No space left on device\n"),
-            (f"check {self.file(self.TEXT)} >&-", 2, "standard output: Bad file descriptor\n"),
-            (f"format {self.file(self.TEXT)} >&-", 2, "standard output: Bad file descriptor\n"),
-            (f"check {many} 2>/dev/full", 2, ""),
-            (f"format {many} 2>/dev/full", 2, ""),
-            (f"format {many} 2>&-", 2, ""),
+            (f"check {self.file(self.TEXT)} >/dev/full", 5, "standard output: No space left on device\n"),
+            (f"format {self.file(self.TEXT)} >/dev/full", 5, f"{self.folder}/a.yml: No space left on device\n"),
+            (f"check {self.file(self.TEXT)} >&-", 5, "standard output: Bad file descriptor\n"),
+            (f"format {self.file(self.TEXT)} >&-", 5, "standard output: Bad file descriptor\n"),
+            (f"check {many} 2>/dev/full", 5, ""),
+            (f"format {many} 2>/dev/full", 5, ""),
+            (f"format {many} 2>&-", 4, ""),
         ):
             ran = subprocess.run(["bash", "-c", f"{sys.executable} -m promql {command}"], capture_output=True, check=False)
             self.assertEqual((ran.returncode, ran.stdout, ran.stderr.decode()), (status, b"", said), command)
@@ -606,7 +635,7 @@ class Writing(Folder):
 
         with mock.patch("builtins.open", broken):
             ran = run("format", "--write", path)
-        self.assertEqual((ran.status, ran.err), (2, f"{path}: Input/output error\n"))
+        self.assertEqual((ran.status, ran.err), (5, f"{path}: Input/output error\n"))
         self.assertEqual(path.read_text(), self.TEXT)
         self.assert_alone("a.yml")
 
@@ -622,7 +651,7 @@ class Writing(Folder):
         path = self.file(self.TEXT)
         with mock.patch("os.access", return_value=False):
             ran = run("format", "--write", path)
-        self.assertEqual((ran.status, ran.err), (2, f"{path}: Permission denied\n"))
+        self.assertEqual((ran.status, ran.err), (5, f"{path}: Permission denied\n"))
         self.assertEqual(path.read_text(), self.TEXT)
 
     def test_standard_input(self):
@@ -630,7 +659,7 @@ class Writing(Folder):
         wanted = file_of("up == 0").replace("\n", "\r\n")
         for option in ((), ("--write",)):
             self.assertEqual(run("format", *option, "-", stdin=text)[:2], (0, wanted))
-        self.assertEqual(run("format", "--check", "-", stdin=text)[:2], (1, "<stdin>\n"))
+        self.assertEqual(run("format", "--check", "-", stdin=text)[:2], (19, "<stdin>\n"))
         self.assertEqual(run("check", "-", stdin=text)[:2], (0, "<stdin>: 1 rule, no errors\n"))
         self.assertIn("<stdin>:5:17: ", run("check", "-", stdin=file_of("up ==").encode()).err)
 
@@ -647,7 +676,7 @@ class Writing(Folder):
         text = file_of("up==0") + "  - alert: C\n    expr: up ==\n"
         path = self.file(text)
         ran = run("format", "--write", path)
-        self.assertEqual((ran.status, ran.out, path.read_text()), (2, "", text))
+        self.assertEqual((ran.status, ran.out, path.read_text()), (4, "", text))
         self.assertIn(f"{path}:7:16: {NO_OPERAND}\n", ran.err)
 
 
@@ -659,7 +688,7 @@ class Enforcing(Folder):
         text = """sum(rate(foo{namespace="team-a"}[5m])) / bar{namespace="team-a"}"""
         self.assertEqual(ran.out, file_of(text))
         self.assertEqual(run("format", "--check", "--enforce", 'namespace="team-a"', self.file(ran.out)).status, 0)
-        self.assertEqual(run("format", "--enforce", "namespace", path).status, 2)
+        self.assertEqual(run("format", "--enforce", "namespace", path).status, 11)
 
     def test_by_a_function(self):
         """Which queries are given to the function, and what is done with its texts."""
@@ -689,10 +718,10 @@ class Page(Folder):
         page = (ROOT / "docs/guide/rule-files.md").read_text(encoding="utf-8")
         for name, text in re.findall(r"`(\w+\.yml)`:\n\n```yaml\n(.*?)^```$", page, re.M | re.S):
             self.file(text, name)
-        sessions = re.findall(r"^```sh\n\$ python3 (.*?)\n(.*?)^```$", page, re.M | re.S)
+        sessions = re.findall(r"^```sh\n\$ promql-rules (.*?)\n(.*?)^```$", page, re.M | re.S)
         self.assertEqual(len(sessions), 5)
         for arguments, wanted in sessions:
-            command = ["sh", "-c", f'exec "$0" {arguments}', sys.executable]
+            command = ["sh", "-c", f'exec "$0" -m promql {arguments}', sys.executable]
             ran = subprocess.run(command, cwd=self.folder, stdout=subprocess.PIPE, stderr=subprocess.STDOUT, check=False)
             self.assertEqual(ran.stdout.decode(), wanted)
 
@@ -746,7 +775,7 @@ class Random(Folder):
 
     def query(self):
         query = self.generator.choice(self.accepted)
-        return promql.format(query, width=self.generator.choice((0, 20, 60, 1000)))
+        return promql.pretty(query, width=self.generator.choice((0, 20, 60, 1000)))
 
     def assert_frame(self, text, frame):
         """The parts of the file around the queries are there, in their order, with nothing but queries between."""

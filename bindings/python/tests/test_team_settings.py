@@ -70,7 +70,7 @@ class Settings(Folder):
     def test_files(self):
         self.put('exclude = ["team/*"]')
         self.assertEqual(run("check", self.rules).status, 0)
-        self.assertEqual(run("check", self.folder).status, 3)
+        self.assertEqual(run("check", self.folder).status, 66)
         said = f"{self.rules}: skipped: left out by {self.folder / '.promql.toml'}\n"
         self.assertIn(said, run("check", "-v", self.folder).err)
 

@@ -280,8 +280,8 @@ class Texts(unittest.TestCase):
 
     def test_layouts(self):
         expr = tree.parse("sum by (job) (rate(foo[5m]))")
-        self.assertEqual(expr.format(width=20, level=1), promql.format(str(expr), width=20, level=1))
-        self.assertEqual(expr.format(), str(expr))
+        self.assertEqual(expr.pretty(width=20, level=1), promql.pretty(str(expr), width=20, level=1))
+        self.assertEqual(expr.pretty(), str(expr))
 
     def check_error(self, expr, path, node):
         with self.assertRaises(tree.NodeError) as raised:

@@ -57,7 +57,7 @@ class Unseen(Folder):
         path = self.put(name, text)
         for given in (path, self.folder):
             ran = run("check", given)
-            self.assertEqual((ran.status, ran.err.count(UNCLOSED)), (1, count), (text, ran))
+            self.assertEqual((ran.status, ran.err.count(UNCLOSED)), (4, count), (text, ran))
         self.put(name, text.replace(BROKEN, "sum(up)"))
         for given in (path, self.folder):
             self.assertEqual(run("check", "--strict", given).status, 0, run("check", given))
@@ -99,7 +99,7 @@ class Objects(Unseen):
         text = f"{head}  a.yml: |\n{indented(rules, 4)}  b.json: |\n{indented(board, 4)}  c.txt: groups\n"
         path = self.put("a.yaml", text)
         ran = run("check", path)
-        self.assertEqual((ran.status, ran.out), (1, f"{path}: 1 rule, 1 query, 3 errors\n"))
+        self.assertEqual((ran.status, ran.out), (4, f"{path}: 1 rule, 1 query, 3 errors\n"))
         self.assertIn(f"{path}:10:21: {UNCLOSED}\n        expr: sum(up\n{' ' * 20}^", ran.err)
         self.assertIn(f"{path}:9:14: `for` is not a duration\n", ran.err)
         self.assertIn(f"{path}:12:46: {UNCLOSED}\n", ran.err)
@@ -128,7 +128,7 @@ class Objects(Unseen):
         path.write_text("alerts:\n  high: {expr: up}\n")
         ran = run("check", self.folder)
         said = f"{path}: warning: skipped: it has an `expr`, and no rules or panels that are known\n"
-        self.assertEqual(ran, (3, "", said + NO_QUERY))
+        self.assertEqual(ran, (66, "", said + NO_QUERY))
         self.assertEqual(run("check", "--strict", self.folder).status, 1)
 
 
@@ -177,13 +177,13 @@ class Folders(Unseen):
         path = self.put("a.json", '{"panels": [{"expr": "up"}')
         self.assertEqual(run("check", self.folder).status, 2)
         path.write_text("{ // settings\n}")
-        self.assertEqual(run("check", self.folder)[::2], (3, NO_QUERY))
+        self.assertEqual(run("check", self.folder)[::2], (66, NO_QUERY))
 
     def test_no_query(self):
         """What a run without a query ends with, unless something is wrong in it."""
         self.put("a.yml", SERVICE)
         for command in (("check",), ("lint",), ("format", "--check")):
-            self.assertEqual(run(*command, self.folder), (3, "", NO_QUERY))
+            self.assertEqual(run(*command, self.folder), (66, "", NO_QUERY))
         self.assertEqual(run("format", "--write", self.folder).status, 0)
         self.put("b.yml", OBJECT)
         self.assertEqual(run("check", self.folder).status, 0)
@@ -223,25 +223,25 @@ class Grafana(Unseen):
             ({"query": "label_values(sum(, job)", "refId": "A"}, 0),
         ):
             ran = run("check", self.variable(query))
-            self.assertEqual(ran.status, 1, (query, ran))
+            self.assertEqual(ran.status, 4, (query, ran))
         for query in ("label_values(job)", "label_names()", "metrics(a(b)"):
-            self.assertEqual(run("check", self.variable(query)).status, 3, query)
+            self.assertEqual(run("check", self.variable(query)).status, 66, query)
         for query in ("label_values(up, job)", 'label_values(up{a=~"$a"}, $b)', "query_result(topk(5, up))", "up"):
             self.assertEqual(run("check", "--strict", self.variable(query)).status, 0, query)
         for kind in ("custom", "interval", "datasource"):
-            self.assertEqual(run("check", self.variable("a b c", kind=kind)).status, 3)
+            self.assertEqual(run("check", self.variable("a b c", kind=kind)).status, 66)
 
     def test_sources_of_variables(self):
         for source, strict in (('{"type": "mysql"}', 0), ("null", 1), ('"shop"', 1)):
             path = self.variable("SELECT 1", source)
             self.assertEqual((run("check", path).status, run("check", "--strict", path).status), (0, strict), source)
-        self.assertEqual(run("check", self.variable("label_values(up{, job)", "null")).status, 1)
+        self.assertEqual(run("check", self.variable("label_values(up{, job)", "null")).status, 4)
 
     def test_variables_are_laid_out(self):
         """What a variable asks for stays around its query, and so do other variables in it."""
         path = self.variable("label_values(up{ a='$a' }, job)")
         self.assertIn(json.dumps("label_values(up{a='$a'}, job)"), run("format", path).out)
-        self.assertEqual(run("format", "--check", path).status, 1)
+        self.assertEqual(run("format", "--check", path).status, 19)
         path = self.variable("query_result(up{a=~'b'})")
         self.assertEqual(run("lint", "--fix", path).status, 0)
         self.assertIn(json.dumps("query_result(up{a='b'})"), path.read_text())

@@ -16,6 +16,7 @@ from pathlib import Path
 ROOT = Path(__file__).resolve().parents[3]
 BOARD = Path("bindings/python/tests/files/board.json")
 TAG = "py3-none-manylinux_2_34_x86_64"
+HOOK = "python -I -m promql.hook"
 BUILT = ("libpromql.so", "_native.abi3.so")
 # Where a package is, who makes its calls, and a line.
 SHOWN = "import promql; print(promql.__file__, promql._caller.__file__, promql.canonical('1+2'), sep='\\n')"
@@ -65,8 +66,8 @@ class Wheels(unittest.TestCase):
         """The package that Python finds, and the program."""
         wanted = [str(package / "__init__.py"), str(built / "_native.abi3.so"), "1 + 2"]
         self.assertEqual(self.run_in_venv("python", "-c", SHOWN).splitlines(), wanted)
-        self.assertIn(" no errors", self.run_in_venv("promql", "check", BOARD))
-        self.run_in_venv("promql", "check", "nowhere.json", status=2)
+        self.assertIn(" no errors", self.run_in_venv("promql-rules", "check", BOARD))
+        self.run_in_venv("promql-rules", "check", "nowhere.json", status=2)
 
     def check_uninstalled(self):
         self.pip("uninstall", "--yes", "promql")
@@ -112,7 +113,7 @@ class Wheels(unittest.TestCase):
         self.assertTrue(metadata["Project-URL"].startswith("Query language, https://"))
         self.assertEqual(metadata.get_payload().strip(), (self.package / "README.md").read_text(encoding="utf-8").strip())
         self.assertEqual((wheel["Tag"], wheel["Root-Is-Purelib"]), (TAG, "false"))
-        lines = ["[console_scripts]", "promql = promql.__main__:program", "promql-hook = promql.hook:program"]
+        lines = ["[console_scripts]", "promql-rules = promql.__main__:program"]
         self.assertEqual(scripts.splitlines(), lines)
 
     def test_install_and_uninstall(self):
@@ -130,13 +131,14 @@ class Wheels(unittest.TestCase):
         """What pre-commit installs: the folder of the repository, and what the hooks name beside it."""
         hooks = (ROOT / ".pre-commit-hooks.yaml").read_text(encoding="utf-8")
         names = set(re.findall(r"additional_dependencies: \[\"(.*)\"\]", hooks))
-        self.assertEqual((names, hooks.count("additional_dependencies")), ({"./bindings/python[rules]"}, hooks.count("entry: promql-hook ")))
+        self.assertEqual((names, hooks.count("additional_dependencies")), ({"./bindings/python[rules]"}, hooks.count(f"entry: {HOOK} ")))
         shutil.copy(ROOT / "pyproject.toml", self.checkout)
         self.pip("install", "--no-build-isolation", ".", *names)
-        self.assertIn("no errors", self.run_in_venv("promql-hook", "check", BOARD))
+        (self.checkout / "argparse.py").write_text("raise SystemExit('this is no module of Python')", encoding="utf-8")
+        self.assertIn("no errors", self.run_in_venv(*HOOK.split(), "check", BOARD))
         rules = self.checkout / "-rules.yml"
         rules.write_text("groups: [{name: a, rules: [{alert: B, expr: up}]}]\n", encoding="utf-8")
-        self.assertIn("./-rules.yml: 1 rule, no errors", self.run_in_venv("promql-hook", "check", "-rules.yml"))
+        self.assertIn("./-rules.yml: 1 rule, no errors", self.run_in_venv(*HOOK.split(), "check", "-rules.yml"))
 
     def test_editable(self):
         self.pip("install", "--no-build-isolation", "--no-deps", "--editable", self.package)

@@ -1,1 +1,1 @@
-"""A language server for queries and rule files: `python3 -m promql lsp` (docs/guide/editor.md)."""
+"""A language server for queries and rule files: `promql-rules lsp` (docs/guide/editor.md)."""

@@ -9,7 +9,7 @@ import promql
 
 from ..files import BLANKS, FileError
 from ..format_command import Printer
-from ..options import PEOPLE, PRETTY
+from ..options import PEOPLE
 from ..queries import Edit, Query, edited
 from ..rule_files import RuleFile
 from ..token_texts import comments_of
@@ -31,7 +31,7 @@ class LeftError(Exception):
 Span = Tuple[int, int]
 
 
-def rule_file_edits(text: str, span: Optional[Span], style: str = PRETTY) -> List[Edit]:
+def rule_file_edits(text: str, span: Optional[Span], style: str = PEOPLE) -> List[Edit]:
     """The edits that lay out the queries of a rule file, or those of them that are in a part of it. What is rejected is left."""
     return _edits_in(file_of(text), span, style, by_rules=True)
 
@@ -109,7 +109,7 @@ class _Part(NamedTuple):
     text: str
 
 
-def lines_edits(text: str, rules: List[Rule], span: Span, style: str = PRETTY) -> Optional[List[Edit]]:
+def lines_edits(text: str, rules: List[Rule], span: Span, style: str = PEOPLE) -> Optional[List[Edit]]:
     """The edits of a part of a file that is read, where few rules are in it; nothing where they have to be looked at with all others."""
     begins = [*(rule.start for rule in rules), len(text)]
     inside = [rule for number, rule in enumerate(rules) if rule.start <= span[1] and span[0] <= begins[number + 1]]
@@ -181,7 +181,7 @@ def _moved(edits: "List[Edit] | Tuple[Edit, ...]", by: int) -> Iterator[Edit]:
 
 def query_edits(text: str) -> List[Edit]:
     """The edit that lays out a query for people, whose text ends in a line end if it did."""
-    new = promql.format_query(text, width=WIDTH) + "\n" * text.endswith("\n")
+    new = promql.format(text, width=WIDTH) + "\n" * text.endswith("\n")
     return [Edit(0, len(text), new)] if new != text else []
 
 
@@ -194,7 +194,7 @@ def node_edits(text: str, span: Span) -> List[Edit]:
     start, end = around[-1]
     line = text[text.rfind("\n", 0, start) + 1 : start]
     indentation = line[: min(len(line) - len(line.lstrip(" ")), WIDTH // 2)]
-    laid_out = promql.format_query(text[start:end], width=WIDTH - len(indentation))
+    laid_out = promql.format(text[start:end], width=WIDTH - len(indentation))
     edit = Edit(start, end, laid_out.replace("\n", "\n" + indentation))
     new = edited(text, [edit])
     if promql.canonical(new) != promql.canonical(text) or comments_of(new) != comments_of(text):

@@ -136,7 +136,7 @@ class Server:
             except ProtocolError as error:
                 self._events.put({"broken": error})
             except (BrokenStream, OSError, ValueError) as error:
-                print(f"promql lsp: {error}", file=sys.stderr)
+                print(f"promql-rules lsp: {error}", file=sys.stderr)
                 break
         self._events.put(End())
 
@@ -177,7 +177,7 @@ class Server:
             try:
                 handler(params)
             except ProtocolError as error:
-                print(f"promql lsp: {method}: {error}", file=sys.stderr)
+                print(f"promql-rules lsp: {method}: {error}", file=sys.stderr)
             except OSError:
                 raise
             except Exception:

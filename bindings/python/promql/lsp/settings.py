@@ -4,12 +4,12 @@ from __future__ import annotations
 
 from typing import Any, NamedTuple
 
-from ..options import PRETTY, STYLES
+from ..options import PEOPLE, STYLES
 
 
 class Settings(NamedTuple):
     # How queries of rule files are laid out; one with a comment is laid out for people in any case.
-    style: str = PRETTY
+    style: str = PEOPLE
     # Whether findings of the linter are shown.
     lints: bool = True
 
