@@ -1,5 +1,6 @@
 # shellcheck shell=bash
-# Functions of bindings/test.sh, which sources this file: the tests of `make install`, and of what CMake, man and the shells find then.
+# Functions of bindings/test.sh, which sources this file: the tests of `make install`, and of what pkg-config, CMake, man and the shells
+# find then.
 : "${here:?}" "${root:?}" "${dist:?}" "${work:?}"
 programs=(promql promql_batch promql_check promql_enforce promql_format)
 prefix=$work/prefix
@@ -10,9 +11,9 @@ make_for() {
     make -s -C "$root" "$@"
 }
 
-# files_in FOLDER: its files, by their names in it, in order.
+# files_in FOLDER: its files and links, by their names in it, in order.
 files_in() {
-    (cd "$1" && find . -type f | sort)
+    (cd "$1" && find . ! -type d | sort)
 }
 
 # What is installed is the same with DESTDIR; others can read it, whatever the umask; and `make uninstall` removes it all.
@@ -23,7 +24,65 @@ install_all() {
     [ "$("$prefix/bin/promql" line <<<'1+2')" = '1 + 2' ] || return
     [ -z "$(find "$prefix" -type f ! -perm -444)" ] || return
     diff <(files_in "$prefix") <(files_in "$work/image/usr a") || return
-    make_for uninstall PREFIX='/usr a' DESTDIR="$work/image" && [ -z "$(find "$work/image" -type f)" ]
+    make_for uninstall PREFIX='/usr a' DESTDIR="$work/image" && [ -z "$(files_in "$work/image")" ]
+}
+
+# pkg_config WORD..: what pkg-config says of the library that was installed.
+pkg_config() {
+    PKG_CONFIG_PATH=$prefix/lib/pkgconfig pkg-config "$@" promql
+}
+
+# The file of the shared library has its version, and the links to it are its SONAME and the name that a linker looks for.
+names_of_library() {
+    local link
+    for link in libpromql.so "$(pkg_config --variable=soname)"; do
+        [ "$(readlink "$prefix/lib/$link")" = "libpromql.so.$(pkg_config --modversion)" ] || return
+    done
+}
+
+has_soname() {
+    objdump -p "$prefix/lib/libpromql.so" | grep -qE "^ +SONAME +$(pkg_config --variable=soname)\$"
+}
+
+# build_linked NAME WORD..: builds the example as NAME, with these words for the compiler.
+build_linked() {
+    "${CC:-cc}" -o "$work/$1" "$here/c/example.c" "${@:2}"
+}
+
+# prints_line NAME [VARIABLE..]: whether this example runs, with these variables alone.
+prints_line() {
+    [ "$(env -i "${@:2}" "$work/$1" '1+2')" = '1 + 2' ]
+}
+
+# The shared library of a prefix where the system does not look for one: by an rpath, and by a variable.
+linked_to_shared() {
+    local libraries
+    local -a flags
+    libraries=$(pkg_config --variable=libdir) && read -r -a flags <<<"$(pkg_config --cflags --libs)" || return
+    build_linked by_rpath "${flags[@]}" -Wl,-rpath,"$libraries" && prints_line by_rpath || return
+    build_linked by_variable "${flags[@]}" && prints_line by_variable LD_LIBRARY_PATH="$libraries"
+}
+
+# The static library: the program needs no other file.
+linked_to_static() {
+    local -a flags
+    read -r -a flags <<<"$(pkg_config --cflags)"
+    build_linked by_archive "${flags[@]}" "$(pkg_config --variable=libdir)/libpromql.a" && prints_line by_archive &&
+        ! ldd "$work/by_archive" | grep promql
+}
+
+# The names of the shared library, and programs that are linked as docs/guide/bindings.md says.
+test_linking() {
+    has pkg-config 'the library that was installed' || return
+    try 'the names of the shared library' names_of_library
+    if [ -n "$stale" ]; then
+        echo "not tried: the SONAME of the shared library: $stale"
+    elif has objdump 'the SONAME of the shared library'; then
+        try 'the SONAME of the shared library' has_soname
+    fi
+    has "${CC:-cc}" 'programs linked to the library that was installed' || return
+    try 'a program linked to the shared library of a prefix' linked_to_shared
+    try 'a program linked to the static library of a prefix' linked_to_static
 }
 
 # Each page is without a warning of groff, and has what the program's help says of its options and statuses.
@@ -95,6 +154,7 @@ test_install() {
     try 'make install' install_all
     [ -d "$share" ] || return
     if has groff 'the manual pages'; then try 'the manual pages' manuals_are_read; fi
+    test_linking
     try 'completions of bash' bash_completes
     if has fish 'completions of fish'; then try 'completions of fish' fish_completes; fi
     if has zsh 'completions of zsh'; then try 'completions of zsh' zsh_completes; fi
@@ -104,5 +164,6 @@ test_install() {
 }
 
 export prefix share
-export -f make_for files_in install_all manuals_are_read completed bash_completes fish_completes zsh_completes
+export -f make_for files_in install_all pkg_config names_of_library has_soname build_linked prints_line linked_to_shared linked_to_static
+export -f manuals_are_read completed bash_completes fish_completes zsh_completes
 export -f cmake_user found_by_cmake part_of_another
