@@ -5,13 +5,14 @@ import (
 	"io"
 	"net/http"
 	"os"
-	"promql/cmd/promql-proxy/internal/endpoint"
-	"promql/cmd/promql-proxy/internal/metrics"
 	"regexp"
 	"sort"
 	"strings"
 	"testing"
 	"time"
+
+	"wellapron.example/promql/cmd/promql-proxy/internal/endpoint"
+	"wellapron.example/promql/cmd/promql-proxy/internal/metrics"
 )
 
 // guide returns the page for the users of the proxy.

@@ -10,13 +10,14 @@ import (
 	"net/http/httptest"
 	"os"
 	"os/exec"
-	"promql"
-	"promql/cmd/promql-proxy/internal/logs"
 	"strings"
 	"sync"
 	"syscall"
 	"testing"
 	"time"
+
+	"wellapron.example/promql"
+	"wellapron.example/promql/cmd/promql-proxy/internal/logs"
 )
 
 const success = `{"status":"success"}`

@@ -6,14 +6,15 @@ import (
 	"fmt"
 	"io"
 	"net/http"
-	"promql"
-	"promql/cmd/promql-proxy/internal/endpoint"
-	"promql/cmd/promql-proxy/internal/logs"
-	"promql/cmd/promql-proxy/internal/tenant"
-	"promql/cmd/promql-proxy/internal/upstream"
 	"regexp"
 	"strings"
 	"time"
+
+	"wellapron.example/promql"
+	"wellapron.example/promql/cmd/promql-proxy/internal/endpoint"
+	"wellapron.example/promql/cmd/promql-proxy/internal/logs"
+	"wellapron.example/promql/cmd/promql-proxy/internal/tenant"
+	"wellapron.example/promql/cmd/promql-proxy/internal/upstream"
 )
 
 // options are what the command line says.

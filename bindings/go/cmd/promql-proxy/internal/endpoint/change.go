@@ -6,9 +6,10 @@ import (
 	"fmt"
 	"net/http"
 	"net/url"
-	"promql"
-	"promql/cmd/promql-proxy/internal/failure"
 	"strings"
+
+	"wellapron.example/promql"
+	"wellapron.example/promql/cmd/promql-proxy/internal/failure"
 )
 
 // The most selectors of a request.

@@ -4,11 +4,12 @@ package endpoint
 
 import (
 	"net/url"
-	"promql/cmd/promql-proxy/internal/failure"
-	"promql/cmd/promql-proxy/internal/filter"
-	"promql/cmd/promql-proxy/internal/form"
-	"promql/cmd/promql-proxy/internal/label"
 	"strings"
+
+	"wellapron.example/promql/cmd/promql-proxy/internal/failure"
+	"wellapron.example/promql/cmd/promql-proxy/internal/filter"
+	"wellapron.example/promql/cmd/promql-proxy/internal/form"
+	"wellapron.example/promql/cmd/promql-proxy/internal/label"
 )
 
 // Endpoint is a path of the server behind, and how a request of it is changed.

@@ -9,10 +9,11 @@ import (
 	"net/http"
 	"net/url"
 	"os"
-	"promql/cmd/promql-proxy/internal/failure"
 	"sort"
 	"strings"
 	"unicode/utf8"
+
+	"wellapron.example/promql/cmd/promql-proxy/internal/failure"
 )
 
 // MediaType is that of a body which is read.

@@ -9,13 +9,14 @@ import (
 	"net"
 	"net/http"
 	"net/url"
-	"promql/cmd/promql-proxy/internal/endpoint"
-	"promql/cmd/promql-proxy/internal/failure"
-	"promql/cmd/promql-proxy/internal/form"
-	"promql/cmd/promql-proxy/internal/tenant"
-	"promql/cmd/promql-proxy/internal/upstream"
 	"strings"
 	"time"
+
+	"wellapron.example/promql/cmd/promql-proxy/internal/endpoint"
+	"wellapron.example/promql/cmd/promql-proxy/internal/failure"
+	"wellapron.example/promql/cmd/promql-proxy/internal/form"
+	"wellapron.example/promql/cmd/promql-proxy/internal/tenant"
+	"wellapron.example/promql/cmd/promql-proxy/internal/upstream"
 )
 
 // exchange is a request and its response, and what the log and the metrics are told of it.

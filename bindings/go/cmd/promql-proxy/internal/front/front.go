@@ -3,12 +3,13 @@ package front
 
 import (
 	"net/http"
-	"promql/cmd/promql-proxy/internal/endpoint"
-	"promql/cmd/promql-proxy/internal/logs"
-	"promql/cmd/promql-proxy/internal/metrics"
-	"promql/cmd/promql-proxy/internal/tenant"
-	"promql/cmd/promql-proxy/internal/upstream"
 	"time"
+
+	"wellapron.example/promql/cmd/promql-proxy/internal/endpoint"
+	"wellapron.example/promql/cmd/promql-proxy/internal/logs"
+	"wellapron.example/promql/cmd/promql-proxy/internal/metrics"
+	"wellapron.example/promql/cmd/promql-proxy/internal/tenant"
+	"wellapron.example/promql/cmd/promql-proxy/internal/upstream"
 )
 
 // Front is the handler of the clients' requests.

@@ -6,10 +6,11 @@ import (
 	"net/http"
 	"net/http/httptest"
 	"net/url"
-	"promql"
 	"regexp"
 	"strings"
 	"testing"
+
+	"wellapron.example/promql"
 )
 
 const matcher = `tenant="team-a"`

@@ -2,9 +2,10 @@ package front
 
 import (
 	"net/http"
-	"promql/cmd/promql-proxy/internal/tenant"
 	"strings"
 	"testing"
+
+	"wellapron.example/promql/cmd/promql-proxy/internal/tenant"
 )
 
 // A tenant's header, in each spelling that HTTP knows, is the same header; no other name is.

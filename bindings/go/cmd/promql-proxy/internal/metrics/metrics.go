@@ -3,13 +3,14 @@ package metrics
 
 import (
 	"io"
-	"promql"
-	"promql/cmd/promql-proxy/internal/failure"
 	"runtime"
 	"sort"
 	"strconv"
 	"sync"
 	"time"
+
+	"wellapron.example/promql"
+	"wellapron.example/promql/cmd/promql-proxy/internal/failure"
 )
 
 // The upper bounds of the histogram of durations, in seconds.

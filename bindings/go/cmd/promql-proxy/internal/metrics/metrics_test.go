@@ -1,10 +1,11 @@
 package metrics
 
 import (
-	"promql/cmd/promql-proxy/internal/failure"
 	"strings"
 	"testing"
 	"time"
+
+	"wellapron.example/promql/cmd/promql-proxy/internal/failure"
 )
 
 const wantedPage = `# HELP promql_proxy_requests_total Requests that were answered.

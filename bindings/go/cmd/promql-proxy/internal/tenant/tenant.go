@@ -6,13 +6,14 @@ import (
 	"fmt"
 	"net/http"
 	"net/url"
-	"promql"
-	"promql/cmd/promql-proxy/internal/failure"
-	"promql/cmd/promql-proxy/internal/label"
 	"regexp"
 	"strconv"
 	"strings"
 	"unicode/utf8"
+
+	"wellapron.example/promql"
+	"wellapron.example/promql/cmd/promql-proxy/internal/failure"
+	"wellapron.example/promql/cmd/promql-proxy/internal/label"
 )
 
 // The most bytes of a value, and the most values of a request.

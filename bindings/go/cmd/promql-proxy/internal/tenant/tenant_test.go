@@ -2,11 +2,12 @@ package tenant
 
 import (
 	"encoding/json"
-	"promql"
 	"regexp"
 	"strings"
 	"testing"
 	"unicode/utf8"
+
+	"wellapron.example/promql"
 )
 
 func TestSourcesThatAreRefused(t *testing.T) {

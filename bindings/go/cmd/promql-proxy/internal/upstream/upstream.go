@@ -11,9 +11,10 @@ import (
 	"net"
 	"net/http"
 	"net/url"
-	"promql/cmd/promql-proxy/internal/form"
 	"strings"
 	"time"
+
+	"wellapron.example/promql/cmd/promql-proxy/internal/form"
 )
 
 // The headers that pass, of a request and of a response. Every other one is dropped: it could name a tenant, a path or a user to the
