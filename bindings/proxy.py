@@ -35,7 +35,7 @@ from pathlib import Path
 from typing import Any
 
 import promql
-from proxy_requests import HONEST_EXEMPLARS, HONEST_PATHS, HONEST_QUERIES, MATCH_PATHS, NOW, SELECTORS_OF_NOW, SELECTORS_OF_SERIES, hostile_requests
+from proxy_requests import HONEST_EXEMPLARS, HONEST_PATHS, HONEST_QUERIES, MATCH_PATHS, NOW, SELECTORS_OF_NOW, SELECTORS_OF_SERIES, TENANT_PATHS, hostile_requests
 
 ROOT = Path(__file__).resolve().parent.parent
 sys.path[:0] = [str(ROOT / "bin"), str(ROOT / "bench" / "meaning")]
@@ -274,10 +274,11 @@ class World:
             (self.many, "-tenant-header", "X-Tenant", "-tenant-list"),
             (self.many, "-tenant-parameter", "team"),
             (self.many, "-tenant", "a"),
+            (self.many, "-tenant-path", "/tenants/", "-set-header", "X-Scope-OrgID: {tenant}"),
         ):
             self.proxies.append(Proxy(program, server, *options))
             stack.callback(self.end, self.proxies[-1])
-        self.to_many, self.to_one, self.lists, self.parameters, self.fixed = (it.port for it in self.proxies)
+        self.to_many, self.to_one, self.lists, self.parameters, self.fixed, self.paths = (it.port for it in self.proxies)
 
     @staticmethod
     def server(stack: contextlib.ExitStack, folder: Path, port: int, tenants: Sequence[str], rules: str) -> Any:
@@ -346,6 +347,7 @@ def honest_queries(world: World) -> int:
                 check(f"{name}: gzip", get(world.to_many, path, asked, AS_A, "Accept-Encoding: gzip").normal() == found.normal())
                 check(f"{name}: by a parameter", get(world.parameters, path, {**asked, "team": "a"}).normal() == found.normal())
                 check(f"{name}: fixed", get(world.fixed, path, asked).normal() == found.normal())
+                check(f"{name}: by a path", get(world.paths, f"/tenants/a{path}", asked).normal() == found.normal())
     return changed
 
 
@@ -426,6 +428,9 @@ def hostile(world: World) -> int:
     for name, text, _ in hostile_requests("team=a&", ()):
         found = send(world.parameters, text)
         check(f"{name}, by a parameter: nothing of others", not HIDDEN.search(found.body), found.body)
+    for path, status in TENANT_PATHS:
+        found = send(world.paths, request_text("GET", f"{path}/api/v1/query?query=hidden_metric&time={NOW}"))
+        check(f"tenant in {path}: status {status}, nothing of others", found.status == status and not HIDDEN.search(found.body), (found.status, found.body))
     return number
 
 

@@ -218,6 +218,23 @@ PATHS = """
 /prometheus/api/v1/query /api/v1/rules/ /api/v1/alerts/x /api/v1/series/x
 """.split()
 
+# What comes before /api/v1/query where the tenant is in the path, and the status: another server on the way could read some as tenant b.
+TENANT_PATHS = (
+    ("/tenants/a", 200),
+    ("/tenants/a.*", 400),
+    ("/tenants/%62", 400),
+    ("/tenants/a%2f..%2fb", 400),
+    ("/tenants/b%00", 400),
+    ("/tenants/b;a", 400),
+    ("/tenants/..", 400),
+    ("/tenants/a/../b", 404),
+    ("/tenants//b", 404),
+    ("/tenants/b/", 404),
+    ("/tenants/./b", 404),
+    ("/Tenants/b", 404),
+    ("", 404),
+)
+
 METHODS = ("PUT", "DELETE", "HEAD", "OPTIONS", "PATCH", "TRACE", "get", "PROPFIND", "X")
 
 # Headers that take the place of the tenant's, and the status.

@@ -29,7 +29,7 @@ func TestCommandLines(t *testing.T) {
 		said      string
 	}{
 		{nil, `promql-proxy: -label: "" is not the name of a label`},
-		{[]string{"-label", "tenant"}, "promql-proxy: the tenant comes from one of -tenant, -tenant-header and -tenant-parameter: 0 of them are given"},
+		{[]string{"-label", "tenant"}, "promql-proxy: the tenant comes from one of -tenant, -tenant-header, -tenant-parameter and -tenant-path: 0 of them are given"},
 		{append(right, "-tenant-header", "X-Tenant"), "promql-proxy: the tenant comes from one of"},
 		{append(right, "-tenant", ""), "promql-proxy: -tenant: the tenant is empty"},
 		{append(right, "x"), `promql-proxy: there is more than options: "x"`},
@@ -46,6 +46,16 @@ func TestCommandLines(t *testing.T) {
 		{[]string{"-label", "tenant", "-tenant-parameter", "time"}, `promql-proxy: -tenant-parameter, -pass-parameter: "time" has a meaning of its own`},
 		{[]string{"-label", "tenant", "-tenant-parameter", "t", "-pass-parameter", "t"}, `promql-proxy: -pass-parameter: "t" is not passed on`},
 		{[]string{"-label", "tenant", "-tenant-header", "host"}, `promql-proxy: -tenant-header: "host" is not the name of a header that can have a tenant`},
+		{append(right, "-pass-header", "Host"), `invalid value "Host" for flag -pass-header: "Host" is not the name of another header that can pass`},
+		{append(right, "-pass-header", "X_A"), `invalid value "X_A" for flag -pass-header: `},
+		{append(right, "-pass-header", "X-A", "-set-header", "x-a: b"), `invalid value "x-a: b" for flag -set-header: "x-a" is not the name of another header`},
+		{append(right, "-set-header", "X-A"), `invalid value "X-A" for flag -set-header: `},
+		{append(right, "-set-header", "X-A:"), `invalid value "X-A:" for flag -set-header: the value of X-A is empty`},
+		{append(right, "-set-header", "X-A: b\nX-B: c"), `invalid value "X-A: b\nX-B: c" for flag -set-header: the value of X-A is empty, or has`},
+		{append(right, "-set-header", "Authorization: Bearer a"), `invalid value "Authorization: Bearer a" for flag -set-header: the value of Auth`},
+		{[]string{"-label", "tenant", "-tenant", "a|b", "-set-header", "X-A: {tenant}"}, "promql-proxy: -set-header: the tenant cannot be named in a header"},
+		{[]string{"-label", "tenant", "-tenant-header", "x-a", "-pass-header", "X-A"}, "promql-proxy: -pass-header: X-A has the tenant: -set-header"},
+		{[]string{"-label", "tenant", "-tenant-path", "tenants/"}, `promql-proxy: -tenant-path: "tenants/" is no path such as /tenants/`},
 		{[]string{"-label", "tenant", "-tenant-header", "X_Tenant"}, `promql-proxy: -tenant-header: "X_Tenant" is not the name of a header that can have a tenant`},
 	} {
 		var out, log strings.Builder

@@ -6,12 +6,12 @@ import (
 	"fmt"
 	"io"
 	"net/http"
-	"regexp"
 	"strings"
 	"time"
 
 	"wellapron.example/promql"
 	"wellapron.example/promql/cmd/promql-proxy/internal/endpoint"
+	"wellapron.example/promql/cmd/promql-proxy/internal/headers"
 	"wellapron.example/promql/cmd/promql-proxy/internal/logs"
 	"wellapron.example/promql/cmd/promql-proxy/internal/tenant"
 	"wellapron.example/promql/cmd/promql-proxy/internal/upstream"
@@ -22,6 +22,7 @@ type options struct {
 	listen, internalListen, upstream string
 	tenants                          tenant.Source
 	more                             words
+	headers                          headers.Rules
 	readTimeout, writeTimeout        time.Duration
 	idleTimeout, upstreamTimeout     time.Duration
 	startTimeout, stopTimeout        time.Duration
@@ -74,7 +75,10 @@ func (o *options) flags(out io.Writer) *flag.FlagSet {
 	flags.Var((*words)(&o.tenants.Fixed), "tenant", "the tenant of all clients; several times for several tenants")
 	flags.StringVar(&o.tenants.Header, "tenant-header", "", "the header that has the tenant of a request")
 	flags.StringVar(&o.tenants.Parameter, "tenant-parameter", "", "the parameter of the address that has the tenant of a request")
-	flags.BoolVar(&o.tenants.List, "tenant-list", false, "the header or the parameter has several tenants, with commas between them")
+	flags.StringVar(&o.tenants.Path, "tenant-path", "", "what comes before the tenant in each path, as in /tenants/ for /tenants/team-a/api/v1/query")
+	flags.BoolVar(&o.tenants.List, "tenant-list", false, "the header, the parameter or the path has several tenants, with commas between them")
+	flags.Func("pass-header", "the name of a header of the client that the Prometheus gets; several times for several", o.headers.Pass)
+	flags.Func("set-header", "a header that the Prometheus gets, as in 'X-Scope-OrgID: {tenant}'; several times for several", o.headers.Set)
 	flags.Var(&o.more, "pass-parameter", "the name of one more parameter that the Prometheus gets; several times for several")
 	o.addLimits(flags)
 	flags.StringVar(&o.target, "target", "prometheus-3", "what reads the queries: prometheus-3, or rules, to let byte escapes through")
@@ -98,16 +102,13 @@ func (o *options) addLimits(flags *flag.FlagSet) {
 	flags.UintVar(&o.maxPatterns, "max-patterns", 16000, "the largest size of a query's patterns together")
 }
 
-// The name of a header that may have the tenant.
-var headerName = regexp.MustCompile(`^[A-Za-z][A-Za-z0-9-]*$`)
-
 // check says what is wrong with the options.
 func (o *options) check() error {
 	if err := o.tenants.Check(); err != nil {
 		return err
 	}
-	if o.tenants.Header != "" && !isFree(o.tenants.Header) {
-		return fmt.Errorf("-tenant-header: %q is not the name of a header that can have a tenant", o.tenants.Header)
+	if err := o.checkHeaders(); err != nil {
+		return err
 	}
 	table := endpoint.NewTable(nil)
 	for _, name := range append([]string{o.tenants.Parameter}, o.more...) {
@@ -132,14 +133,26 @@ func (o *options) check() error {
 	return o.checkLimits()
 }
 
-// isFree says whether a header has no meaning to HTTP, so that it can have a tenant.
-func isFree(header string) bool {
-	switch http.CanonicalHeaderKey(header) {
-	case "Host", "Connection", "Keep-Alive", "Transfer-Encoding", "Content-Length", "Content-Type", "Content-Encoding", "Trailer", "Te",
-		"Upgrade", "Expect", "Accept", "Accept-Encoding":
-		return false
+func (o *options) checkHeaders() error {
+	if o.tenants.Header != "" && !headers.IsFree(o.tenants.Header) {
+		return fmt.Errorf("-tenant-header: %q is not the name of a header that can have a tenant", o.tenants.Header)
 	}
-	return headerName.MatchString(header)
+	for _, name := range o.headers.Passed() {
+		if name == http.CanonicalHeaderKey(o.tenants.Header) {
+			return fmt.Errorf("-pass-header: %s has the tenant: -set-header '%s: %s' gives it to the Prometheus", name, name, headers.Placeholder)
+		}
+	}
+	if len(o.tenants.Fixed) == 0 {
+		return nil
+	}
+	fixed, err := tenant.New(o.tenants.Label, o.tenants.Fixed)
+	if err != nil {
+		return err
+	}
+	if _, failed := o.headers.Of(nil, fixed); failed != nil {
+		return fmt.Errorf("-set-header: %w", failed)
+	}
+	return nil
 }
 
 func (o *options) checkLimits() error {

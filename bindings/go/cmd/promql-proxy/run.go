@@ -52,6 +52,7 @@ func newService(o *options, log *logs.Logger) (*service, error) {
 	handler := &front.Front{
 		Upstream:   behind,
 		Tenants:    o.tenants,
+		Headers:    o.headers,
 		Table:      endpoint.NewTable(o.more),
 		Metrics:    counted,
 		Log:        log,

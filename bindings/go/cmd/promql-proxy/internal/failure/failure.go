@@ -29,6 +29,7 @@ const (
 	Method       Reason = "method"
 	Body         Reason = "body"
 	Parameter    Reason = "parameter"
+	Header       Reason = "header"
 	Tenant       Reason = "tenant"
 	Query        Reason = "query"
 	Limit        Reason = "limit"

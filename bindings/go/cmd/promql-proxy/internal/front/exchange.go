@@ -8,7 +8,6 @@ import (
 	"mime"
 	"net"
 	"net/http"
-	"net/url"
 	"strings"
 	"time"
 
@@ -26,6 +25,8 @@ type exchange struct {
 	request  *http.Request
 	begun    time.Time
 	endpoint string
+	path     string
+	segment  string
 	tenant   tenant.Tenant
 	asked    []string
 	status   int
@@ -72,7 +73,12 @@ func (e *exchange) answer(found *endpoint.Endpoint) *failure.Error {
 		return err
 	}
 	e.asked = endpoint.Asked(address, body)
-	if e.tenant, err = e.Tenants.Of(e.request, address, body); err != nil {
+	named := tenant.Request{Header: e.request.Header, Address: address, Body: body, Segment: e.segment}
+	if e.tenant, err = e.Tenants.Of(named); err != nil {
+		return err
+	}
+	header, err := e.Headers.Of(e.request.Header, e.tenant)
+	if err != nil {
 		return err
 	}
 	parameters, err := found.Parameters(address, body, e.tenant.Matcher())
@@ -82,13 +88,15 @@ func (e *exchange) answer(found *endpoint.Endpoint) *failure.Error {
 	// The request ends with the client's, so a client that leaves takes its query with it.
 	ctx, cancel := context.WithTimeout(e.request.Context(), e.Timeout)
 	defer cancel()
-	return e.pass(ctx, found, parameters)
+	return e.pass(ctx, found, upstream.Question{Method: e.request.Method, Path: e.path, Parameters: parameters, Header: header})
 }
 
-// route finds the endpoint of the path as it was written.
+// route finds the endpoint of the path as it was written, without what says the tenant.
 func (e *exchange) route() (*endpoint.Endpoint, *failure.Error) {
-	found := e.Table.Find(e.request.URL.EscapedPath())
-	if found == nil {
+	var has bool
+	e.segment, e.path, has = e.Tenants.CutPath(e.request.URL.EscapedPath())
+	found := e.Table.Find(e.path)
+	if !has || found == nil {
 		return nil, &failure.Error{Status: http.StatusNotFound, Kind: failure.NotFound, Reason: failure.Path, Message: "no such path"}
 	}
 	e.endpoint = found.Name
@@ -107,10 +115,11 @@ func (e *exchange) route() (*endpoint.Endpoint, *failure.Error) {
 }
 
 // pass asks the server behind, and gives its answer back.
-func (e *exchange) pass(ctx context.Context, found *endpoint.Endpoint, parameters url.Values) *failure.Error {
-	question := upstream.Question{Method: e.request.Method, Path: e.request.URL.Path, Parameters: parameters}
+func (e *exchange) pass(ctx context.Context, found *endpoint.Endpoint, question upstream.Question) *failure.Error {
 	if found.Filter == nil {
-		question.Client = e.request.Header
+		for _, name := range []string{"Accept", "Accept-Encoding"} {
+			question.Header[name] = e.request.Header.Values(name)
+		}
 	}
 	response, err := e.Upstream.Ask(ctx, question)
 	if err != nil {

@@ -6,6 +6,7 @@ import (
 	"time"
 
 	"wellapron.example/promql/cmd/promql-proxy/internal/endpoint"
+	"wellapron.example/promql/cmd/promql-proxy/internal/headers"
 	"wellapron.example/promql/cmd/promql-proxy/internal/logs"
 	"wellapron.example/promql/cmd/promql-proxy/internal/metrics"
 	"wellapron.example/promql/cmd/promql-proxy/internal/tenant"
@@ -16,6 +17,7 @@ import (
 type Front struct {
 	Upstream *upstream.Server
 	Tenants  tenant.Source
+	Headers  headers.Rules
 	Table    *endpoint.Table
 	Metrics  *metrics.Metrics
 	Log      *logs.Logger
@@ -32,9 +34,11 @@ type Front struct {
 
 func (f *Front) ServeHTTP(w http.ResponseWriter, r *http.Request) {
 	w.Header().Set("X-Content-Type-Options", "nosniff")
-	if f.Tenants.Header != "" {
-		// A cache on the way has an answer for each tenant.
-		w.Header().Set("Vary", f.Tenants.Header)
+	// A cache on the way has an answer for each tenant, and for all else that the server behind is told of a client.
+	for _, name := range append([]string{f.Tenants.Header}, f.Headers.Passed()...) {
+		if name != "" {
+			w.Header().Add("Vary", name)
+		}
 	}
 	it := &exchange{Front: f, ResponseWriter: w, request: r, begun: time.Now(), endpoint: "none"}
 	f.Metrics.Begin()

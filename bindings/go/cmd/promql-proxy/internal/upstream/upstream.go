@@ -17,12 +17,7 @@ import (
 	"wellapron.example/promql/cmd/promql-proxy/internal/form"
 )
 
-// The headers that pass, of a request and of a response. Every other one is dropped: it could name a tenant, a path or a user to the
-// server behind, or turn the connection into another one.
-func requestHeaders() []string {
-	return []string{"Accept", "Accept-Encoding"}
-}
-
+// The headers of a response that pass. Every other one is dropped: it could name a user, or turn the connection into another one.
 func responseHeaders() []string {
 	return []string{"Content-Type", "Content-Encoding", "Content-Length", "Cache-Control", "Retry-After", "Vary"}
 }
@@ -71,8 +66,7 @@ type Question struct {
 	Method     string
 	Path       string
 	Parameters url.Values
-	// Client has the headers of the client, of which some pass; nil where none does.
-	Client http.Header
+	Header     http.Header
 }
 
 // Ask sends a question. Where the server behind responds with another protocol or another place, that is an error.
@@ -104,7 +98,9 @@ func (s *Server) request(ctx context.Context, question Question) (*http.Request,
 	if err != nil {
 		return nil, err
 	}
-	copyHeaders(request.Header, question.Client, requestHeaders())
+	for name, values := range question.Header {
+		request.Header[name] = values
+	}
 	request.Header.Set("User-Agent", userAgent)
 	if body != nil {
 		request.Header.Set("Content-Type", form.MediaType)
@@ -114,12 +110,8 @@ func (s *Server) request(ctx context.Context, question Question) (*http.Request,
 
 // CopyHeaders adds the headers of a response that pass.
 func CopyHeaders(to http.Header, response *http.Response) {
-	copyHeaders(to, response.Header, responseHeaders())
-}
-
-func copyHeaders(to, from http.Header, names []string) {
-	for _, name := range names {
-		if values := from.Values(name); len(values) != 0 {
+	for _, name := range responseHeaders() {
+		if values := response.Header.Values(name); len(values) != 0 {
 			name = http.CanonicalHeaderKey(name)
 			to[name] = append(to[name], values...)
 		}
