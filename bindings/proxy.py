@@ -20,6 +20,7 @@ import json
 import os
 import random
 import re
+import shutil
 import signal
 import socket
 import subprocess
@@ -235,10 +236,10 @@ def free_port() -> int:
 class Proxy:
     """The program before a server."""
 
-    def __init__(self, program: str, server: Any, *options: str) -> None:
+    def __init__(self, program: str, upstream: str, *options: str) -> None:
         self.port, self.inside = free_port(), free_port()
         words = [program, "-listen", f"127.0.0.1:{self.port}", "-internal-listen", f"127.0.0.1:{self.inside}"]
-        words += ["-upstream", f"http://127.0.0.1:{server.port}", "-label", "tenant", *options]
+        words += ["-upstream", upstream, "-label", "tenant", *options]
         self.log = tempfile.TemporaryFile()
         self.process = subprocess.Popen(words, stdout=subprocess.DEVNULL, stderr=self.log)
         for _ in range(200):
@@ -276,7 +277,7 @@ class World:
             (self.many, "-tenant", "a"),
             (self.many, "-tenant-path", "/tenants/", "-set-header", "X-Scope-OrgID: {tenant}"),
         ):
-            self.proxies.append(Proxy(program, server, *options))
+            self.proxies.append(Proxy(program, f"http://127.0.0.1:{server.port}", *options))
             stack.callback(self.end, self.proxies[-1])
         self.to_many, self.to_one, self.lists, self.parameters, self.fixed, self.paths = (it.port for it in self.proxies)
 
@@ -434,6 +435,66 @@ def hostile(world: World) -> int:
     return number
 
 
+# ---- a server that wants to know who asks
+
+# The password of the user proxy, and its bcrypt hash.
+PASSWORD = "word of a"
+PASSWORD_HASH = "$2b$04$abcdefghijklmnopqrstuuMPgdu8gU/etKIiayg92X9D7PP3JQ.Zm"
+
+
+def certificate(folder: Path, name: str) -> tuple[Path, Path]:
+    """The files of a certificate of its own authority, for 127.0.0.1, and of its key."""
+    made, key = folder / f"{name}.crt", folder / f"{name}.key"
+    words = ["openssl", "req", "-x509", "-newkey", "ec", "-pkeyopt", "ec_paramgen_curve:prime256v1", "-nodes", "-days", "1", "-subj", f"/CN={name}"]
+    subprocess.run([*words, "-addext", "subjectAltName=IP:127.0.0.1", "-keyout", key, "-out", made], check=True, capture_output=True)
+    return made, key
+
+
+def words_of(options: Mapping[str, object]) -> Sequence[str]:
+    """The words of a command line for options and their values."""
+    return [str(word) for pair in options.items() for word in pair]
+
+
+def known_proxies(program: str) -> None:
+    """A server that has certificates and passwords answers the proxy that has them, and no other."""
+    if shutil.which("openssl") is None:
+        print("not tried: a server that wants to know who asks: there is no openssl here")
+        return
+    with contextlib.ExitStack() as stack:
+        folder = Path(stack.enter_context(tempfile.TemporaryDirectory()))
+        (server, server_key), (mine, key), (others, others_key) = (certificate(folder, name) for name in ("server", "proxy", "other"))
+        (folder / "web.yml").write_text(
+            f"tls_server_config: {{cert_file: {server}, key_file: {server_key}, client_auth_type: RequireAndVerifyClientCert, client_ca_file: {mine}}}\n"
+            f"basic_auth_users: {{proxy: '{PASSWORD_HASH}'}}\n"
+        )
+        (folder / "prometheus.yml").write_text("{}\n")
+        (folder / "word").write_text(PASSWORD + "\n")
+        (folder / "other word").write_text("another word\n")
+        port = free_port()
+        options = ("--config.file", "prometheus.yml", "--web.config.file", "web.yml", "--storage.tsdb.path", "data")
+        behind = subprocess.Popen(
+            ["prometheus", *options, f"--web.listen-address=127.0.0.1:{port}"], cwd=folder, stdout=subprocess.DEVNULL, stderr=subprocess.DEVNULL
+        )
+        stack.callback(behind.wait, 30)
+        stack.callback(behind.terminate)
+        password = {"-upstream-user": "proxy", "-upstream-password-file": folder / "word"}
+        trust, own = {"-upstream-ca-file": server}, {"-upstream-cert-file": mine, "-upstream-key-file": key}
+        proxy = Proxy(program, f"https://127.0.0.1:{port}", "-tenant", "a", *words_of({**password, **trust, **own}))
+        found = get(proxy.port, "/api/v1/query", {"query": "vector(1)"}, "Authorization: Basic eDp5")
+        check("the proxy that the server knows", found.status == 200 and b'"1"' in found.body, found.body)
+        check("the proxy ends", proxy.end()[0] == 0)
+        for name, wrong in (
+            ("a wrong password", {**password, **trust, **own, "-upstream-password-file": folder / "other word"}),
+            ("no password", {**trust, **own}),
+            ("the certificate of another", {**password, **trust, "-upstream-cert-file": others, "-upstream-key-file": others_key}),
+            ("no certificate", {**password, **trust}),
+            ("a server that is not known", {**password, **own}),
+        ):
+            words = [program, "-upstream", f"https://127.0.0.1:{port}", "-label", "tenant", "-tenant", "a", "-start-timeout", "1s", *words_of(wrong)]
+            ended = subprocess.run(words, capture_output=True, timeout=30, check=False)
+            check(f"{name}: the proxy does not start", ended.returncode == 1 and PASSWORD.encode() not in ended.stderr, ended)
+
+
 def metrics(world: World) -> None:
     """The metrics of the proxies, as the reader of Prometheus reads them."""
     for proxy in world.proxies:
@@ -457,6 +518,7 @@ def main() -> int:
         made = random_queries(world)
         attacks = hostile(world)
         metrics(world)
+        known_proxies(os.path.abspath(sys.argv[1]))
         alive = json.loads(get(world.many.port, "/api/v1/query", {"query": "count(hidden_metric)", "time": NOW}).body)
         check("the server has its data after all that", alive["data"]["result"][0]["value"][1] == "3", alive)
     asked = 2 * len(HONEST_QUERIES) + len(MATCH_PATHS) * len(SELECTORS_OF_SERIES) + len(SELECTORS_OF_NOW) + len(HONEST_EXEMPLARS) + len(HONEST_PATHS)

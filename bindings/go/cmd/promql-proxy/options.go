@@ -20,6 +20,7 @@ import (
 // options are what the command line says.
 type options struct {
 	listen, internalListen, upstream string
+	access                           upstream.Access
 	tenants                          tenant.Source
 	more                             words
 	headers                          headers.Rules
@@ -71,6 +72,7 @@ func (o *options) flags(out io.Writer) *flag.FlagSet {
 	flags.StringVar(&o.listen, "listen", "localhost:9091", "the address for clients")
 	flags.StringVar(&o.internalListen, "internal-listen", "", "the address for metrics, health and readiness; none where it is empty")
 	flags.StringVar(&o.upstream, "upstream", "http://localhost:9090", "the Prometheus")
+	addAccess(flags, &o.access, "upstream", "Prometheus")
 	flags.StringVar(&o.tenants.Label, "label", "", "the label that names the tenant of a series, such as tenant")
 	flags.Var((*words)(&o.tenants.Fixed), "tenant", "the tenant of all clients; several times for several tenants")
 	flags.StringVar(&o.tenants.Header, "tenant-header", "", "the header that has the tenant of a request")
@@ -86,6 +88,16 @@ func (o *options) flags(out io.Writer) *flag.FlagSet {
 	flags.BoolVar(&o.logQueries, "log-queries", false, "log queries, selectors and messages about them")
 	flags.BoolVar(&o.version, "version", false, "print the version and end")
 	return flags
+}
+
+// addAccess adds the flags for the access to a server, each with a word before it.
+func addAccess(flags *flag.FlagSet, access *upstream.Access, word, server string) {
+	flags.StringVar(&access.User, word+"-user", "", "the user of the proxy for the "+server)
+	flags.StringVar(&access.PasswordFile, word+"-password-file", "", "the file with the password of this user")
+	flags.StringVar(&access.BearerFile, word+"-bearer-file", "", "the file with a token for the "+server)
+	flags.StringVar(&access.CAFile, word+"-ca-file", "", "the file with the authorities for the certificate of the "+server)
+	flags.StringVar(&access.CertFile, word+"-cert-file", "", "the file with the certificate of the proxy for the "+server)
+	flags.StringVar(&access.KeyFile, word+"-key-file", "", "the file with the key of this certificate")
 }
 
 func (o *options) addLimits(flags *flag.FlagSet) {
@@ -127,7 +139,7 @@ func (o *options) check() error {
 	if _, err := logs.ParseLevel(o.logLevel); err != nil {
 		return fmt.Errorf("-log-level: %w", err)
 	}
-	if _, err := upstream.New(o.upstream); err != nil {
+	if _, err := upstream.New(o.upstream, o.access); err != nil {
 		return fmt.Errorf("-upstream: %w", err)
 	}
 	return o.checkLimits()
@@ -141,6 +153,9 @@ func (o *options) checkHeaders() error {
 		if name == http.CanonicalHeaderKey(o.tenants.Header) {
 			return fmt.Errorf("-pass-header: %s has the tenant: -set-header '%s: %s' gives it to the Prometheus", name, name, headers.Placeholder)
 		}
+	}
+	if o.access.HasAuthorization() && o.headers.Has("Authorization") {
+		return errors.New("-pass-header: the Prometheus gets the Authorization of the proxy")
 	}
 	if len(o.tenants.Fixed) == 0 {
 		return nil

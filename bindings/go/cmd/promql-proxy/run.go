@@ -33,7 +33,7 @@ type service struct {
 
 // newService returns the service that the options, which are right, ask for.
 func newService(o *options, log *logs.Logger) (*service, error) {
-	behind, err := upstream.New(o.upstream)
+	behind, err := upstream.New(o.upstream, o.access)
 	if err != nil {
 		return nil, err
 	}

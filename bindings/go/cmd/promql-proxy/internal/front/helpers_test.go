@@ -134,7 +134,7 @@ func before(t *testing.T, address string, tenants tenant.Source) *served {
 // frontOf returns the handler of a proxy before an address.
 func frontOf(t testing.TB, address string, tenants tenant.Source, log *lines) *Front {
 	t.Helper()
-	behind, err := upstream.New(address)
+	behind, err := upstream.New(address, upstream.Access{})
 	if err != nil {
 		t.Fatal(err)
 	}

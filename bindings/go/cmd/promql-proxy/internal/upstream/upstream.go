@@ -33,12 +33,13 @@ const (
 // Server is a Prometheus.
 type Server struct {
 	address   *url.URL
+	access    Access
 	transport http.RoundTripper
 }
 
 // New returns the server at an address such as http://localhost:9090, which has a scheme and a host, and no user, parameters or fragment.
 // It makes connections of its own, and none by way of the environment's proxies.
-func New(address string) (*Server, error) {
+func New(address string, access Access) (*Server, error) {
 	parsed, err := url.Parse(address)
 	if err != nil {
 		return nil, err
@@ -49,16 +50,24 @@ func New(address string) (*Server, error) {
 	if parsed.User != nil || parsed.RawQuery != "" || parsed.Fragment != "" {
 		return nil, errors.New("an address has a scheme, a host and a path, and nothing else")
 	}
+	if err := access.check(parsed.Scheme); err != nil {
+		return nil, err
+	}
+	encrypted, err := access.tls()
+	if err != nil {
+		return nil, err
+	}
 	dialer := &net.Dialer{Timeout: dialTimeout}
 	transport := &http.Transport{
 		DialContext:            dialer.DialContext,
+		TLSClientConfig:        encrypted,
 		TLSHandshakeTimeout:    dialTimeout,
 		IdleConnTimeout:        idleTimeout,
 		MaxIdleConnsPerHost:    maxIdle,
 		MaxResponseHeaderBytes: maxHeader,
 		DisableCompression:     true,
 	}
-	return &Server{parsed, transport}, nil
+	return &Server{parsed, access, transport}, nil
 }
 
 // Question is what a Prometheus is asked.
@@ -100,6 +109,13 @@ func (s *Server) request(ctx context.Context, question Question) (*http.Request,
 	}
 	for name, values := range question.Header {
 		request.Header[name] = values
+	}
+	authorization, err := s.access.authorization()
+	if err != nil {
+		return nil, err
+	}
+	if authorization != "" {
+		request.Header.Set("Authorization", authorization)
 	}
 	request.Header.Set("User-Agent", userAgent)
 	if body != nil {
