@@ -36,7 +36,8 @@ from pathlib import Path
 from typing import Any
 
 import promql
-from proxy_requests import HONEST_EXEMPLARS, HONEST_PATHS, HONEST_QUERIES, MATCH_PATHS, NOW, SELECTORS_OF_NOW, SELECTORS_OF_SERIES, TENANT_PATHS, hostile_requests
+from proxy_requests import CONFLICTS, HONEST_EXEMPLARS, HONEST_PATHS, HONEST_QUERIES, MATCH_PATHS, NOW, SELECTORS_OF_NOW, SELECTORS_OF_SERIES
+from proxy_requests import SHARED, TENANT_PATHS, hostile_requests
 
 ROOT = Path(__file__).resolve().parent.parent
 sys.path[:0] = [str(ROOT / "bin"), str(ROOT / "bench" / "meaning")]
@@ -63,6 +64,7 @@ def series_of(rng: random.Random, tenants: Sequence[str]) -> Iterator[Any]:
     """The series of a store: the same metrics for each tenant, and some that others have alone."""
     for tenant in tenants:
         labels = {"tenant": tenant} if tenant else {}
+        yield Series("shared_info", {**labels, "node": "n"}, [1] * 240)
         if tenant not in ("a", "c.d"):
             labels["mark"] = "hidden_mark"
         for job in ("api", "web", "db"):
@@ -276,10 +278,13 @@ class World:
             (self.many, "-tenant-parameter", "team"),
             (self.many, "-tenant", "a"),
             (self.many, "-tenant-path", "/tenants/", "-set-header", "X-Scope-OrgID: {tenant}"),
+            (self.many, "-tenant-header", "X-Tenant", "-error-on-conflict"),
+            (self.many, "-tenant-header", "X-Tenant", "-shared-metric", "shared_info"),
         ):
             self.proxies.append(Proxy(program, f"http://127.0.0.1:{server.port}", *options))
             stack.callback(self.end, self.proxies[-1])
-        self.to_many, self.to_one, self.lists, self.parameters, self.fixed, self.paths = (it.port for it in self.proxies)
+        ports = [it.port for it in self.proxies]
+        self.to_many, self.to_one, self.lists, self.parameters, self.fixed, self.paths, self.conflicts, self.shared = ports
 
     @staticmethod
     def server(stack: contextlib.ExitStack, folder: Path, port: int, tenants: Sequence[str], rules: str) -> Any:
@@ -397,6 +402,43 @@ def honest_others(world: World) -> None:
         check(f"{path}: others have more", bool(HIDDEN.search(among.body)), among.body)
 
 
+def honest_without_series(world: World) -> None:
+    """Requests that read no series get what the server says, and values of labels come by POST, too."""
+    for path, parameters in (("/api/v1/format_query", {"query": "sum(rate(a[5m]))by(b)"}), ("/api/v1/status/buildinfo", {})):
+        found = same_for_both(world, path, get_text(path, parameters, AS_A))
+        check(f"{path}: as the server", found.status == 200 and found.body == get(world.many.port, path, parameters).body, found.body)
+    for selectors in SELECTORS_OF_SERIES:
+        asked: dict[str, object] = {"match[]": selectors, "start": NOW - 1200, "end": NOW}
+        path = "/api/v1/label/job/values"
+        check(f"{path} {selectors}: POST", post(world.to_many, path, asked, AS_A).normal() == get(world.to_many, path, asked, AS_A).normal())
+    found = same_for_both(world, "rules by a selector", get_text("/api/v1/rules", {"match[]": '{severity="page"}'}, AS_A))
+    check("rules by a selector are these", b"AlertOfA" in found.body and b"recorded_a" not in found.body, found.body)
+
+
+def conflicts(world: World) -> None:
+    """Where a conflict is an error, a query with another matcher of the label gets none, and any other what it gets without that."""
+    for query, status in CONFLICTS:
+        asked = {"query": query, "time": NOW}
+        found = get(world.conflicts, "/api/v1/query", asked, AS_A)
+        same = status != 200 or found.normal() == get(world.to_many, "/api/v1/query", asked, AS_A).normal()
+        check(f"conflict {query}", found.status == status and same, (found.status, found.body))
+
+
+def shared_metrics(world: World) -> None:
+    """A shared metric is that of all tenants, and no other is, whatever a client asks."""
+    for query, is_whole in SHARED:
+        asked = {"query": query, "time": NOW}
+        found, whole = get(world.shared, "/api/v1/query", asked, AS_A), get(world.many.port, "/api/v1/query", asked)
+        check(f"shared {query}", found.status == 200 and (found.normal() == whole.normal()) == is_whole, (found.body, whole.body))
+        check(f"shared {query}: nothing of others", not HIDDEN.search(found.body), found.body)
+    found = get(world.shared, "/api/v1/series", {"start": NOW - 1200, "end": NOW}, AS_A)
+    names = [it.get("tenant") for it in json.loads(found.body)["data"] if it["__name__"] == "shared_info"]
+    check("all series", sorted(map(str, names)) == ["None", "a", "b", "c.d", "cxd"] and not HIDDEN.search(found.body), found.body)
+    for name, text, _ in hostile_requests():
+        found = send(world.shared, text)
+        check(f"{name}, with a shared metric: nothing of others", not HIDDEN.search(found.body), found.body)
+
+
 def random_queries(world: World) -> int:
     """Queries by all functions and operators: how many there are. Of equal values `topk` and `bottomk` take any."""
     maker, number = Maker(random.Random(1)), 0
@@ -495,6 +537,56 @@ def known_proxies(program: str) -> None:
             check(f"{name}: the proxy does not start", ended.returncode == 1 and PASSWORD.encode() not in ended.stderr, ended)
 
 
+# ---- targets of tenants
+
+
+class Targets(BaseHTTPRequestHandler):
+    """Shows the metrics of a target of the tenant that the path names."""
+
+    def do_GET(self) -> None:
+        """Answers."""
+        mine = self.path == "/a"
+        own = "a_gauge 1" if mine else "# HELP hidden_gauge a help\nhidden_gauge 1"
+        text = f"# HELP both_gauge {'of a' if mine else 'hidden help'}\n# TYPE both_gauge gauge\nboth_gauge 1\n# TYPE a_gauge gauge\n{own}\n".encode()
+        self.send_response(200)
+        self.send_header("Content-Type", "text/plain")
+        self.send_header("Content-Length", str(len(text)))
+        self.end_headers()
+        self.wfile.write(text)
+
+    def log_message(self, *_: object) -> None:
+        """Says nothing."""
+
+
+def metadata_of_targets(program: str) -> None:
+    """What is said of metrics is what the targets of the tenant say, whatever others say of a metric of the same name."""
+    with contextlib.ExitStack() as stack:
+        folder = Path(stack.enter_context(tempfile.TemporaryDirectory()))
+        targets = ThreadingHTTPServer(("127.0.0.1", 0), Targets)
+        threading.Thread(target=targets.serve_forever, daemon=True).start()
+        stack.callback(targets.shutdown)
+        found = []
+        for tenants in ("a", "b"), ("a",):
+            text = "global: {scrape_interval: 1s}\nscrape_configs:\n" + "".join(
+                f"- job_name: {it}\n  metrics_path: /{it}\n  static_configs:\n  - targets: ['127.0.0.1:{targets.server_port}']\n    labels: {{tenant: {it}}}\n"
+                for it in tenants
+            )
+            server = Prometheus(folder / "".join(tenants), [Series("up", {}, [1] * 240)], text)
+            stack.callback(server.end)
+            for _ in range(200):
+                if len(json.loads(server.get("/api/v1/targets/metadata?metric=both_gauge")[1]).get("data", ())) == len(tenants):
+                    break
+                time.sleep(0.1)
+            proxy = Proxy(program, f"http://127.0.0.1:{server.port}", "-tenant", "a")
+            stack.callback(proxy.end)
+            parameters = ({}, {"metric": "both_gauge"}, {"metric": "hidden_gauge"}, {"limit": 1}, {"limit_per_metric": 1})
+            found.append([get(proxy.port, "/api/v1/metadata", it).body for it in parameters])
+            alone = server.get("/api/v1/metadata")[1]
+        check("metadata: one answer whatever others have", found[0] == found[1], found)
+        check("metadata: nothing of others", not HIDDEN.search(b"".join(found[0])), found)
+        check("metadata: as the tenant's own server", json.loads(found[0][0]) == json.loads(alone) and b"of a" in found[0][1], (found, alone))
+
+
 def metrics(world: World) -> None:
     """The metrics of the proxies, as the reader of Prometheus reads them."""
     for proxy in world.proxies:
@@ -514,11 +606,15 @@ def main() -> int:
         honest_selectors(world)
         honest_federation(world)
         honest_others(world)
+        honest_without_series(world)
+        conflicts(world)
+        shared_metrics(world)
         several_tenants(world)
         made = random_queries(world)
         attacks = hostile(world)
         metrics(world)
         known_proxies(os.path.abspath(sys.argv[1]))
+        metadata_of_targets(os.path.abspath(sys.argv[1]))
         alive = json.loads(get(world.many.port, "/api/v1/query", {"query": "count(hidden_metric)", "time": NOW}).body)
         check("the server has its data after all that", alive["data"]["result"][0]["value"][1] == "3", alive)
     asked = 2 * len(HONEST_QUERIES) + len(MATCH_PATHS) * len(SELECTORS_OF_SERIES) + len(SELECTORS_OF_NOW) + len(HONEST_EXEMPLARS) + len(HONEST_PATHS)

@@ -67,7 +67,7 @@ func TestPathsOfThePage(t *testing.T) {
 			t.Errorf("%s is not served", path)
 		}
 	}
-	if len(paths) != 9 {
+	if len(paths) != 13 {
 		t.Errorf("the page has %v", paths)
 	}
 }

@@ -22,7 +22,7 @@ type options struct {
 	listen, internalListen, upstream string
 	access                           upstream.Access
 	tenants                          tenant.Source
-	more                             words
+	more, shared                     words
 	headers                          headers.Rules
 	readTimeout, writeTimeout        time.Duration
 	idleTimeout, upstreamTimeout     time.Duration
@@ -31,6 +31,7 @@ type options struct {
 	maxQuery, maxPatterns            uint
 	maxRequests                      int
 	logQueries, version              bool
+	errorOnConflict                  bool
 	logLevel, target                 string
 }
 
@@ -81,6 +82,8 @@ func (o *options) flags(out io.Writer) *flag.FlagSet {
 	flags.BoolVar(&o.tenants.List, "tenant-list", false, "the header, the parameter or the path has several tenants, with commas between them")
 	flags.Func("pass-header", "the name of a header of the client that the Prometheus gets; several times for several", o.headers.Pass)
 	flags.Func("set-header", "a header that the Prometheus gets, as in 'X-Scope-OrgID: {tenant}'; several times for several", o.headers.Set)
+	flags.BoolVar(&o.errorOnConflict, "error-on-conflict", false, "reject queries that have another matcher of the label of the tenant")
+	flags.Var(&o.shared, "shared-metric", "the name of a metric that every tenant sees whole; several times for several")
 	flags.Var(&o.more, "pass-parameter", "the name of one more parameter that the Prometheus gets; several times for several")
 	o.addLimits(flags)
 	flags.StringVar(&o.target, "target", "prometheus-3", "what reads the queries: prometheus-3, or rules, to let byte escapes through")
@@ -132,6 +135,9 @@ func (o *options) check() error {
 		if name == "" || name == o.tenants.Parameter {
 			return fmt.Errorf("-pass-parameter: %q is not passed on", name)
 		}
+	}
+	if err := endpoint.CheckShared(o.shared); err != nil {
+		return fmt.Errorf("-shared-metric: %w", err)
 	}
 	if _, err := promql.ParseTarget(o.target); err != nil {
 		return fmt.Errorf("-target: %w", err)

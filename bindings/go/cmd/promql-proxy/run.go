@@ -50,17 +50,19 @@ func newService(o *options, log *logs.Logger) (*service, error) {
 	}
 	counted := metrics.New(time.Now())
 	handler := &front.Front{
-		Upstream:   behind,
-		Tenants:    o.tenants,
-		Headers:    o.headers,
-		Table:      endpoint.NewTable(o.more),
-		Metrics:    counted,
-		Log:        log,
-		LogQueries: o.logQueries,
-		Places:     make(chan struct{}, o.maxRequests),
-		MaxBody:    o.maxBody,
-		MaxAnswer:  o.maxAnswer,
-		Timeout:    o.upstreamTimeout,
+		Upstream:        behind,
+		Tenants:         o.tenants,
+		Headers:         o.headers,
+		RejectConflicts: o.errorOnConflict,
+		Shared:          o.shared,
+		Table:           endpoint.NewTable(o.more),
+		Metrics:         counted,
+		Log:             log,
+		LogQueries:      o.logQueries,
+		Places:          make(chan struct{}, o.maxRequests),
+		MaxBody:         o.maxBody,
+		MaxAnswer:       o.maxAnswer,
+		Timeout:         o.upstreamTimeout,
 	}
 	s := &service{options: o, log: log, behind: behind, internal: &front.Internal{Metrics: counted}}
 	s.clients = s.server(handler, o.writeTimeout)

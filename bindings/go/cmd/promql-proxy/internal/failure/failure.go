@@ -32,6 +32,7 @@ const (
 	Header       Reason = "header"
 	Tenant       Reason = "tenant"
 	Query        Reason = "query"
+	Conflict     Reason = "conflict"
 	Limit        Reason = "limit"
 	Memory       Reason = "memory"
 	Busy         Reason = "busy"

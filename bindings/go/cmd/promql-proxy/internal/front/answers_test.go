@@ -257,7 +257,7 @@ func TestRulesAndAlerts(t *testing.T) {
 	if wanted := `{"data":{"alerts":[{"labels":{"tenant":"team-a"},"value":"1"},{"labels":{"tenant":"team-b"}}]},"status":"success"}`; body != wanted {
 		t.Error(body)
 	}
-	for _, path := range []string{rules + "?match[]=a", rules + "?group_limit=1", rules + "?type=alert&type=record", "/api/v1/alerts?x=1"} {
+	for _, path := range []string{rules + "?match[]=a-b", rules + "?group_limit=1", rules + "?type=alert&type=record", "/api/v1/alerts?x=1"} {
 		response, body := proxy.do(t, request{method: "GET", target: path})
 		checkError(t, path, response, body, http.StatusBadRequest, "bad_data")
 	}

@@ -81,14 +81,15 @@ func (e *exchange) answer(found *endpoint.Endpoint) *failure.Error {
 	if err != nil {
 		return err
 	}
-	parameters, err := found.Parameters(address, body, e.tenant.Matcher())
+	enforcement := endpoint.Enforcement{Tenant: e.tenant, RejectConflicts: e.RejectConflicts, Shared: e.Shared}
+	plan, err := found.Plan(e.request.Method, e.path, address, body, enforcement)
 	if err != nil {
 		return err
 	}
 	// The request ends with the client's, so a client that leaves takes its query with it.
 	ctx, cancel := context.WithTimeout(e.request.Context(), e.Timeout)
 	defer cancel()
-	return e.pass(ctx, found, upstream.Question{Method: e.request.Method, Path: e.path, Parameters: parameters, Header: header})
+	return e.pass(ctx, plan, header)
 }
 
 // route finds the endpoint of the path as it was written, without what says the tenant.
@@ -115,23 +116,27 @@ func (e *exchange) route() (*endpoint.Endpoint, *failure.Error) {
 }
 
 // pass asks the server behind, and gives its answer back.
-func (e *exchange) pass(ctx context.Context, found *endpoint.Endpoint, question upstream.Question) *failure.Error {
-	if found.Filter == nil {
+func (e *exchange) pass(ctx context.Context, plan *endpoint.Plan, header http.Header) *failure.Error {
+	if plan.Filter == nil {
 		for _, name := range []string{"Accept", "Accept-Encoding"} {
-			question.Header[name] = e.request.Header.Values(name)
+			header[name] = e.request.Header.Values(name)
 		}
 	}
-	response, err := e.Upstream.Ask(ctx, question)
+	response, err := e.Upstream.Ask(ctx, upstream.Question{Method: plan.Method, Path: plan.Path, Parameters: plan.Parameters, Header: header})
 	if err != nil {
 		return e.unanswered(ctx, err)
 	}
 	defer response.Body.Close()
 	e.Metrics.Upstream(response.StatusCode)
-	if response.StatusCode >= 400 && (found.Filter != nil || !isJSON(response)) {
+	if response.StatusCode == http.StatusNotFound && plan.Nothing != nil && isJSON(response) {
+		e.writeJSON(plan.Nothing)
+		return nil
+	}
+	if response.StatusCode >= 400 && (plan.Filter != nil || !isJSON(response)) {
 		return failedBehind(e.Header(), response)
 	}
-	if found.Filter != nil {
-		return e.filter(ctx, found, response)
+	if plan.Filter != nil {
+		return e.filter(ctx, plan, response)
 	}
 	upstream.CopyHeaders(e.Header(), response)
 	e.WriteHeader(response.StatusCode)
@@ -144,7 +149,7 @@ func (e *exchange) pass(ctx context.Context, found *endpoint.Endpoint, question 
 }
 
 // filter answers with what the tenant may see.
-func (e *exchange) filter(ctx context.Context, found *endpoint.Endpoint, response *http.Response) *failure.Error {
+func (e *exchange) filter(ctx context.Context, plan *endpoint.Plan, response *http.Response) *failure.Error {
 	text, err := upstream.ReadAll(response, e.MaxAnswer)
 	switch {
 	case errors.Is(err, upstream.ErrTooLarge):
@@ -153,15 +158,19 @@ func (e *exchange) filter(ctx context.Context, found *endpoint.Endpoint, respons
 	case err != nil:
 		return e.unanswered(ctx, err)
 	}
-	kept, err := found.Filter(text, e.tenant.Allows)
+	kept, err := plan.Filter(text)
 	if err != nil {
 		return badGateway(failure.Answer, "the answer of the server behind cannot be filtered", err)
 	}
+	e.writeJSON(kept)
+	return nil
+}
+
+func (e *exchange) writeJSON(text []byte) {
 	e.Header().Set("Content-Type", "application/json")
 	e.WriteHeader(http.StatusOK)
 	// A client that is gone by now is not told.
-	_, _ = e.Write(kept)
-	return nil
+	_, _ = e.Write(text)
 }
 
 // unanswered says why the server behind did not answer, or not to its end.

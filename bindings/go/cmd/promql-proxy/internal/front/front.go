@@ -18,9 +18,12 @@ type Front struct {
 	Upstream *upstream.Server
 	Tenants  tenant.Source
 	Headers  headers.Rules
-	Table    *endpoint.Table
-	Metrics  *metrics.Metrics
-	Log      *logs.Logger
+	// RejectConflicts and Shared are those of endpoint.Enforcement.
+	RejectConflicts bool
+	Shared          []string
+	Table           *endpoint.Table
+	Metrics         *metrics.Metrics
+	Log             *logs.Logger
 	// LogQueries says that the log shows queries, selectors and messages about them.
 	LogQueries bool
 	// MaxBody and MaxAnswer are the most bytes of a request's body, and of an answer that is filtered.

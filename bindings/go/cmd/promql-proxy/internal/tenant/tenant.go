@@ -72,12 +72,28 @@ func (t Tenant) Matcher() string {
 	if len(t.values) == 1 {
 		return t.name + "=" + strconv.Quote(t.values[0])
 	}
+	return t.name + "=~" + strconv.Quote(t.pattern())
+}
+
+// pattern returns the pattern that matches each of the values, and nothing else.
+func (t Tenant) pattern() string {
 	escaped := make([]string, len(t.values))
 	for i, value := range t.values {
 		// The library takes digits after a brace for a count, escaped or not, and rejects a pattern with a great one.
 		escaped[i] = strings.ReplaceAll(regexp.QuoteMeta(value), `\{`, `\x7b`)
 	}
-	return t.name + "=~" + strconv.Quote(strings.Join(escaped, "|"))
+	return strings.Join(escaped, "|")
+}
+
+// Conflicts says whether a matcher names the label in another way: it is neither one of the values nor the matcher of all of them.
+func (t Tenant) Conflicts(matcher promql.Matcher) bool {
+	switch {
+	case matcher.Name != t.name:
+		return false
+	case matcher.Type == promql.MatchEqual:
+		return !t.Allows(map[string]string{t.name: matcher.Value})
+	}
+	return matcher.Type != promql.MatchRegexp || len(t.values) == 1 || matcher.Value != t.pattern()
 }
 
 // Allows says whether the matcher allows a series with these labels.
