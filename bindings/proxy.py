@@ -36,6 +36,7 @@ from pathlib import Path
 from typing import Any
 
 import promql
+import proxy_alertmanager
 from proxy_requests import CONFLICTS, HONEST_EXEMPLARS, HONEST_PATHS, HONEST_QUERIES, MATCH_PATHS, NOW, SELECTORS_OF_NOW, SELECTORS_OF_SERIES
 from proxy_requests import SHARED, TENANT_PATHS, hostile_requests
 
@@ -587,6 +588,14 @@ def metadata_of_targets(program: str) -> None:
         check("metadata: as the tenant's own server", json.loads(found[0][0]) == json.loads(alone) and b"of a" in found[0][1], (found, alone))
 
 
+def alertmanagers(program: str) -> None:
+    """The paths of an Alertmanager, where Debian's is installed."""
+    if shutil.which("prometheus-alertmanager") is None:
+        print("not tried: the proxy before an Alertmanager: there is no prometheus-alertmanager here")
+        return
+    proxy_alertmanager.compare(check, lambda *options: Proxy(program, *options), free_port)
+
+
 def metrics(world: World) -> None:
     """The metrics of the proxies, as the reader of Prometheus reads them."""
     for proxy in world.proxies:
@@ -615,6 +624,7 @@ def main() -> int:
         metrics(world)
         known_proxies(os.path.abspath(sys.argv[1]))
         metadata_of_targets(os.path.abspath(sys.argv[1]))
+        alertmanagers(os.path.abspath(sys.argv[1]))
         alive = json.loads(get(world.many.port, "/api/v1/query", {"query": "count(hidden_metric)", "time": NOW}).body)
         check("the server has its data after all that", alive["data"]["result"][0]["value"][1] == "3", alive)
     asked = 2 * len(HONEST_QUERIES) + len(MATCH_PATHS) * len(SELECTORS_OF_SERIES) + len(SELECTORS_OF_NOW) + len(HONEST_EXEMPLARS) + len(HONEST_PATHS)

@@ -9,8 +9,8 @@
 #                                accepts, and the places of errors, in two minutes (bench/meaning, bench/places, bench/targets), where
 #                                Debian's package prometheus is installed; --install does not install it, since Debian starts a service
 #                                then
-# bindings/test.sh --proxy       holds the Go proxy against a Prometheus with several tenants, in half a minute, where that is installed
-#                                (docs/guide/proxy.md)
+# bindings/test.sh --proxy       holds the Go proxy against a Prometheus with several tenants, and an Alertmanager, in half a minute, where
+#                                these are installed (docs/guide/proxy.md)
 # bindings/test.sh --editor      tries the language server in Neovim, in Emacs, and with the extension for VS Code, in half a minute,
 #                                where nvim, emacs and node are installed (docs/guide/editor.md)
 set -u

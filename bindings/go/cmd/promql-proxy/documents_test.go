@@ -61,13 +61,15 @@ func TestOptionsOfThePage(t *testing.T) {
 // The page has each path that is served.
 func TestPathsOfThePage(t *testing.T) {
 	table := endpoint.NewTable(nil)
+	table.AddAlertmanager()
+	named := strings.NewReplacer("NAME", "job", "ID", "01234567-89ab-cdef-0123-456789abcdef")
 	paths := firsts(t, "(/[^`]+)`")
 	for _, path := range paths {
-		if table.Find(strings.ReplaceAll(path, "NAME", "job")) == nil {
+		if table.Find(named.Replace(path)) == nil {
 			t.Errorf("%s is not served", path)
 		}
 	}
-	if len(paths) != 13 {
+	if len(paths) != 18 {
 		t.Errorf("the page has %v", paths)
 	}
 }

@@ -20,7 +20,8 @@ import (
 // options are what the command line says.
 type options struct {
 	listen, internalListen, upstream string
-	access                           upstream.Access
+	alertmanager                     string
+	access, alertmanagerAccess       upstream.Access
 	tenants                          tenant.Source
 	more, shared                     words
 	headers                          headers.Rules
@@ -74,6 +75,8 @@ func (o *options) flags(out io.Writer) *flag.FlagSet {
 	flags.StringVar(&o.internalListen, "internal-listen", "", "the address for metrics, health and readiness; none where it is empty")
 	flags.StringVar(&o.upstream, "upstream", "http://localhost:9090", "the Prometheus")
 	addAccess(flags, &o.access, "upstream", "Prometheus")
+	flags.StringVar(&o.alertmanager, "alertmanager", "", "the Alertmanager, whose alerts and silences are served, too; none where it is empty")
+	addAccess(flags, &o.alertmanagerAccess, "alertmanager", "Alertmanager")
 	flags.StringVar(&o.tenants.Label, "label", "", "the label that names the tenant of a series, such as tenant")
 	flags.Var((*words)(&o.tenants.Fixed), "tenant", "the tenant of all clients; several times for several tenants")
 	flags.StringVar(&o.tenants.Header, "tenant-header", "", "the header that has the tenant of a request")
@@ -126,6 +129,7 @@ func (o *options) check() error {
 		return err
 	}
 	table := endpoint.NewTable(nil)
+	table.AddAlertmanager()
 	for _, name := range append([]string{o.tenants.Parameter}, o.more...) {
 		if table.Takes(name) {
 			return fmt.Errorf("-tenant-parameter, -pass-parameter: %q has a meaning of its own", name)
@@ -148,7 +152,21 @@ func (o *options) check() error {
 	if _, err := upstream.New(o.upstream, o.access); err != nil {
 		return fmt.Errorf("-upstream: %w", err)
 	}
+	if _, err := o.newAlertmanager(); err != nil {
+		return fmt.Errorf("-alertmanager: %w", err)
+	}
 	return o.checkLimits()
+}
+
+// newAlertmanager returns the Alertmanager, or nil where there is none.
+func (o *options) newAlertmanager() (*upstream.Server, error) {
+	if o.alertmanager == "" {
+		if o.alertmanagerAccess != (upstream.Access{}) {
+			return nil, errors.New("there is none for these credentials")
+		}
+		return nil, nil
+	}
+	return upstream.New(o.alertmanager, o.alertmanagerAccess)
 }
 
 func (o *options) checkHeaders() error {
@@ -160,8 +178,8 @@ func (o *options) checkHeaders() error {
 			return fmt.Errorf("-pass-header: %s has the tenant: -set-header '%s: %s' gives it to the Prometheus", name, name, headers.Placeholder)
 		}
 	}
-	if o.access.HasAuthorization() && o.headers.Has("Authorization") {
-		return errors.New("-pass-header: the Prometheus gets the Authorization of the proxy")
+	if (o.access.HasAuthorization() || o.alertmanagerAccess.HasAuthorization()) && o.headers.Has("Authorization") {
+		return errors.New("-pass-header: the server behind gets the Authorization of the proxy")
 	}
 	if len(o.tenants.Fixed) == 0 {
 		return nil

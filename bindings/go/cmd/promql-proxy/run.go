@@ -37,6 +37,14 @@ func newService(o *options, log *logs.Logger) (*service, error) {
 	if err != nil {
 		return nil, err
 	}
+	alertmanager, err := o.newAlertmanager()
+	if err != nil {
+		return nil, err
+	}
+	table := endpoint.NewTable(o.more)
+	if alertmanager != nil {
+		table.AddAlertmanager()
+	}
 	promql.SetLimits(o.maxQuery, o.maxPatterns)
 	target, err := promql.ParseTarget(o.target)
 	if err != nil {
@@ -51,11 +59,12 @@ func newService(o *options, log *logs.Logger) (*service, error) {
 	counted := metrics.New(time.Now())
 	handler := &front.Front{
 		Upstream:        behind,
+		Alertmanager:    alertmanager,
 		Tenants:         o.tenants,
 		Headers:         o.headers,
 		RejectConflicts: o.errorOnConflict,
 		Shared:          o.shared,
-		Table:           endpoint.NewTable(o.more),
+		Table:           table,
 		Metrics:         counted,
 		Log:             log,
 		LogQueries:      o.logQueries,

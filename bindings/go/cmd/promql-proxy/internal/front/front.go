@@ -16,8 +16,10 @@ import (
 // Front is the handler of the clients' requests.
 type Front struct {
 	Upstream *upstream.Server
-	Tenants  tenant.Source
-	Headers  headers.Rules
+	// Alertmanager is nil where there is none.
+	Alertmanager *upstream.Server
+	Tenants      tenant.Source
+	Headers      headers.Rules
 	// RejectConflicts and Shared are those of endpoint.Enforcement.
 	RejectConflicts bool
 	Shared          []string

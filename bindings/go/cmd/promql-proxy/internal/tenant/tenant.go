@@ -96,6 +96,16 @@ func (t Tenant) Conflicts(matcher promql.Matcher) bool {
 	return matcher.Type != promql.MatchRegexp || len(t.values) == 1 || matcher.Value != t.pattern()
 }
 
+// Label returns the label that names the tenant.
+func (t Tenant) Label() string {
+	return t.name
+}
+
+// Only returns the value of a tenant that has one alone.
+func (t Tenant) Only() (string, bool) {
+	return t.values[0], len(t.values) == 1
+}
+
 // Allows says whether the matcher allows a series with these labels.
 func (t Tenant) Allows(labels map[string]string) bool {
 	found, has := labels[t.name]

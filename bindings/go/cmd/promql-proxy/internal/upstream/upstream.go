@@ -3,6 +3,7 @@
 package upstream
 
 import (
+	"bytes"
 	"context"
 	"encoding/json"
 	"errors"
@@ -30,7 +31,7 @@ const (
 	userAgent   = "promql-proxy"
 )
 
-// Server is a Prometheus.
+// Server is a Prometheus or an Alertmanager.
 type Server struct {
 	address   *url.URL
 	access    Access
@@ -70,12 +71,14 @@ func New(address string, access Access) (*Server, error) {
 	return &Server{parsed, access, transport}, nil
 }
 
-// Question is what a Prometheus is asked.
+// Question is what a server is asked.
 type Question struct {
 	Method     string
 	Path       string
 	Parameters url.Values
-	Header     http.Header
+	// JSON is the body of a POST, or nil where that is a form of the parameters.
+	JSON   []byte
+	Header http.Header
 }
 
 // Ask sends a question. Where the server behind responds with another protocol or another place, that is an error.
@@ -98,9 +101,13 @@ func (s *Server) Ask(ctx context.Context, question Question) (*http.Response, er
 func (s *Server) request(ctx context.Context, question Question) (*http.Request, error) {
 	target := s.address.JoinPath(question.Path)
 	var body io.Reader
-	if question.Method == http.MethodPost {
+	mediaType := form.MediaType
+	switch {
+	case question.JSON != nil:
+		body, mediaType = bytes.NewReader(question.JSON), form.JSONType
+	case question.Method == http.MethodPost:
 		body = strings.NewReader(question.Parameters.Encode())
-	} else {
+	default:
 		target.RawQuery = question.Parameters.Encode()
 	}
 	request, err := http.NewRequestWithContext(ctx, question.Method, target.String(), body)
@@ -119,7 +126,7 @@ func (s *Server) request(ctx context.Context, question Question) (*http.Request,
 	}
 	request.Header.Set("User-Agent", userAgent)
 	if body != nil {
-		request.Header.Set("Content-Type", form.MediaType)
+		request.Header.Set("Content-Type", mediaType)
 	}
 	return request, nil
 }
