@@ -580,6 +580,7 @@ test_attacks() {
         try 'forms for Go by its fuzzer' in_go . test -run '^$' -fuzz FuzzForms -fuzztime 10000x .
         add 'the proxy in Go' go_tests ./cmd/promql-proxy/...
         try 'requests for the proxy by its fuzzer' in_go . test -run '^$' -fuzz FuzzRequests -fuzztime 20000x ./cmd/promql-proxy/internal/front
+        try 'silences for the proxy by its fuzzer' in_go . test -run '^$' -fuzz FuzzSilences -fuzztime 20000x ./cmd/promql-proxy/internal/front
     fi
     has python3 'the page, the tools for rule files and the programs' || return
     add 'small stacks for Python' unit_tests "$here/python" test_promql.py -k Stacks

@@ -117,34 +117,26 @@ func filterRules(plan *Plan, enforcement Enforcement) *failure.Error {
 	if failed := checkTogether(selectors); failed != nil {
 		return failed
 	}
-	selects, failed := selectionOfRules(selectors, enforcement)
-	if failed != nil {
-		return failed
-	}
-	plan.Filter = func(answer []byte) ([]byte, error) {
-		return filter.Rules(answer, selects, enforcement.Tenant.Allows)
-	}
-	return nil
-}
-
-// selectionOfRules says which rules of the tenant's are selected.
-func selectionOfRules(selectors []string, enforcement Enforcement) (filter.Allows, *failure.Error) {
-	var selections []filter.Selects
+	var read filter.Selectors
 	for _, selector := range selectors {
 		// A rule has no name of a metric that could be shared.
 		_, selection, failed := changeSelector(selector, Enforcement{Tenant: enforcement.Tenant, RejectConflicts: enforcement.RejectConflicts})
 		if failed != nil {
-			return nil, failed
+			return failed
 		}
-		selects, err := filter.Selector(selection)
-		if err != nil {
-			return nil, failure.Bad(failure.Query, "match[]: "+err.Error())
+		if err := read.Add(selection); err != nil {
+			return failure.Bad(failure.Query, "match[]: "+err.Error())
 		}
-		selections = append(selections, selects)
 	}
-	return func(labels map[string]string) bool {
-		return enforcement.Tenant.Allows(labels) && (len(selections) == 0 || filter.Any(selections, labels))
-	}, nil
+	plan.Filter = func(answer []byte) ([]byte, error) {
+		selects := func(labels map[string]string) bool { return enforcement.Tenant.Allows(labels) && read.Select(labels) }
+		kept, err := filter.Rules(answer, selects, enforcement.Tenant.Allows)
+		if err == nil {
+			err = read.Err()
+		}
+		return kept, err
+	}
+	return nil
 }
 
 // filterAlerts keeps the alerts of a tenant.

@@ -144,6 +144,9 @@ func rejected(err error) *failure.Error {
 	case errors.Is(err, promql.ErrTooLarge) || errors.Is(err, promql.ErrLargeEnforced) || errors.Is(err, promql.ErrLongOutput) ||
 		errors.Is(err, promql.ErrTooLargeTree) || errors.Is(err, promql.ErrNumberTooWide):
 		return tooMuch(err.Error())
+	case errors.Is(err, promql.ErrNotATree):
+		// The form of a tree has fewer levels than a query, so such a query cannot be printed again.
+		return tooMuch("the query is nested too deeply to keep a shared metric as it is")
 	case errors.Is(err, promql.ErrBareInfo):
 		return execution(failure.Query, err.Error())
 	case errors.As(err, &found) || errors.Is(err, promql.ErrNotUTF8):

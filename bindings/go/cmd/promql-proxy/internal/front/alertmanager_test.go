@@ -241,6 +241,57 @@ func TestSilencesOfSeveral(t *testing.T) {
 	}
 }
 
+// Whatever bytes a client sends, each silence that the Alertmanager gets is for the tenant's alerts alone.
+func FuzzSilences(f *testing.F) {
+	manager := &manager{}
+	server := httptest.NewServer(manager)
+	f.Cleanup(server.Close)
+	front := frontOf(f, server.URL, fixed("team-a"), &lines{})
+	front.Alertmanager = front.Upstream
+	front.Table.AddAlertmanager()
+	for _, body := range []string{
+		`{"matchers":[{"name":"a","value":"b","isRegex":true,"isEqual":false}],"startsAt":"s","endsAt":"e","createdBy":"me","comment":"c"}`,
+		`{"matchers":[{"name":"tenant","value":"team-a"},{"Name":"tenant","VALUE":"team-b","isregex":true}],"matchers":[{}]}`,
+		`{"id":"` + mine + `","matchers":[{"name":"tenant","value":"team-a","name":"x"}],"\u006datchers":null}`,
+		`{"id":"` + other + `","matchers":[{"name":"tena\u006et","value":"team\u002da","isEqual":null}]}`,
+	} {
+		f.Add(body)
+	}
+	f.Fuzz(func(t *testing.T, body string) {
+		request := httptest.NewRequest("POST", silences, strings.NewReader(body))
+		request.Header.Set("Content-Type", "application/json")
+		front.ServeHTTP(httptest.NewRecorder(), request)
+		for _, sent := range manager.all() {
+			if strings.HasPrefix(sent, "GET "+silence) {
+				continue
+			}
+			made := strings.TrimPrefix(sent, "POST "+silences+" ")
+			var read struct {
+				ID       string
+				Matchers []struct {
+					Name, Value      string
+					IsRegex, IsEqual *bool
+				}
+			}
+			if err := json.Unmarshal([]byte(made), &read); err != nil || read.ID != "" && read.ID != mine {
+				t.Fatalf("%q: the Alertmanager was sent %s", body, sent)
+			}
+			owned := 0
+			for _, it := range read.Matchers {
+				if it.Name == "tenant" {
+					owned++
+					if it.Value != "team-a" || *it.IsRegex || it.IsEqual != nil && !*it.IsEqual {
+						t.Errorf("%q: the Alertmanager was sent %s", body, sent)
+					}
+				}
+			}
+			if owned == 0 {
+				t.Errorf("%q: the Alertmanager was sent %s", body, sent)
+			}
+		}
+	})
+}
+
 // Without an Alertmanager there is none of its paths.
 func TestNoAlertmanager(t *testing.T) {
 	proxy := serve(t, fixed("team-a"), nil)

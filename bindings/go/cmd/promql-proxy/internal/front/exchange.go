@@ -180,6 +180,9 @@ func (e *exchange) filtered(ctx context.Context, plan *endpoint.Plan, header htt
 	switch {
 	case errors.Is(err, filter.ErrOther):
 		return nil, missing(plan)
+	case errors.Is(err, filter.ErrSteps):
+		failed := &failure.Error{Status: http.StatusUnprocessableEntity, Kind: failure.Execution, Reason: failure.Limit, Message: "match[]: " + err.Error()}
+		return nil, failed
 	case err != nil:
 		return nil, badGateway(failure.Answer, "the answer of the server behind cannot be filtered", err)
 	}

@@ -1,12 +1,14 @@
 package front
 
 import (
+	"fmt"
 	"net/http"
 	"net/url"
 	"reflect"
 	"sort"
 	"strings"
 	"testing"
+	"time"
 
 	"wellapron.example/promql/cmd/promql-proxy/internal/endpoint"
 )
@@ -64,6 +66,11 @@ func TestConflicts(t *testing.T) {
 	proxy.checkAsked(t, "selectors in conflict", 0)
 }
 
+// nested returns a query in so many parentheses.
+func nested(query string, levels int) string {
+	return strings.Repeat("(", levels) + query + strings.Repeat(")", levels)
+}
+
 // The selectors of shared metrics stay as they were asked, and no others do.
 func TestSharedMetrics(t *testing.T) {
 	proxy := serve(t, fixed("team-a"), nil)
@@ -99,7 +106,7 @@ func TestSharedMetrics(t *testing.T) {
 		}
 	}
 	proxy.front.RejectConflicts = true
-	for text, status := range map[string]int{`kube_info{tenant="b"}`: 200, `kube_info + foo{tenant="b"}`: 400, "info(kube_info)": 422} {
+	for text, status := range map[string]int{`kube_info{tenant="b"}`: 200, `kube_info + foo{tenant="b"}`: 400, "info(kube_info)": 422, nested("kube_info", 100): 200, nested("kube_info", 400): 422, nested("foo", 400): 200} {
 		if response, body := proxy.get(t, "/api/v1/query", url.Values{"query": {text}}); response.StatusCode != status {
 			t.Errorf("%s: %d %s", text, response.StatusCode, body)
 		}
@@ -154,6 +161,26 @@ func TestRulesBySelectors(t *testing.T) {
 		}
 	}
 	proxy.checkAsked(t, "no selectors", 0)
+}
+
+// Patterns that take long, for many rules, end in an error, and not in minutes.
+func TestRulesBySlowPatterns(t *testing.T) {
+	var rules strings.Builder
+	for i := 0; i < 5000; i++ {
+		fmt.Fprintf(&rules, `{"labels":{"tenant":"team-a","x":"%d%s"}},`, i, strings.Repeat("a", 40))
+	}
+	answer := `{"status":"success","data":{"groups":[{"name":"g","rules":[` + strings.TrimSuffix(rules.String(), ",") + `]}]}}`
+	proxy := serve(t, fixed("team-a"), said(200, nil, answer))
+	for pattern, status := range map[string]int{".*a": 200, ".*.*.*.*.*b": 200, "(.*){0,700}x": 422, "(?:.?){0,600}b": 422, "[a-z0-9]{690}b": 422} {
+		begun := time.Now()
+		response, body := proxy.get(t, "/api/v1/rules", url.Values{"match[]": {`{x=~"` + pattern + `"}`}})
+		if took := time.Since(begun); response.StatusCode != status || took > 10*time.Second {
+			t.Errorf("%s: %d %.100s, %v", pattern, response.StatusCode, body, took)
+		}
+		if status == 422 && checkError(t, pattern, response, body, status, "execution") != "match[]: the patterns are too large for so many rules" {
+			t.Error(body)
+		}
+	}
 }
 
 // Metadata are those of the tenant's targets.
