@@ -1,15 +1,17 @@
 # make install [PREFIX=/usr/local] [DESTDIR=]
-#     installs what dist/ has: the programs, with manual pages and completions for bash, zsh and fish, and the library for C, with what
+#     installs what dist/ has: the program, with its manual page and completions for bash, zsh and fish, and the library for C, with what
 #     pkg-config and CMake find it by. Nothing is built.
 # make uninstall [PREFIX=/usr/local] [DESTDIR=]
 #     removes these files.
 PREFIX = /usr/local
 to = $(DESTDIR)$(PREFIX)
-programs = promql promql_batch promql_check promql_enforce promql_format
-files = $(programs:%=bin/%) include/promql.h lib/libpromql.a lib/libpromql.so lib/pkgconfig/promql.pc \
+version := $(shell sed -n 's/^Version: //p' bindings/c/promql.pc)
+soname := $(shell sed -n 's/^soname=//p' bindings/c/promql.pc)
+library = libpromql.so.$(version)
+files = bin/promql include/promql.h lib/libpromql.a lib/$(library) lib/$(soname) lib/libpromql.so lib/pkgconfig/promql.pc \
     $(addprefix lib/cmake/promql/, promql-config.cmake promql-config-version.cmake promql_targets.cmake) \
-    $(programs:%=share/man/man1/%.1) $(programs:%=share/bash-completion/completions/%) \
-    $(programs:%=share/zsh/site-functions/_%) $(programs:%=share/fish/vendor_completions.d/%.fish) \
+    share/man/man1/promql.1 share/bash-completion/completions/promql \
+    share/zsh/site-functions/_promql share/fish/vendor_completions.d/promql.fish \
     share/doc/promql/LICENSE share/doc/promql/NOTICE
 
 .PHONY: help install uninstall
@@ -18,9 +20,12 @@ help:
 
 install:
 	install -d "$(to)/bin" "$(to)/include" "$(to)/lib/pkgconfig" "$(to)/share/doc/promql"
-	install -m 755 $(programs:%=dist/%) "$(to)/bin"
+	install -m 755 dist/promql "$(to)/bin"
 	install -m 644 dist/promql.h "$(to)/include"
-	install -m 644 dist/libpromql.a dist/libpromql.so "$(to)/lib"
+	install -m 644 dist/libpromql.a "$(to)/lib"
+	install -m 644 dist/libpromql.so "$(to)/lib/$(library)"
+	ln -sf $(library) "$(to)/lib/$(soname)"
+	ln -sf $(library) "$(to)/lib/libpromql.so"
 	install -m 644 bindings/c/promql.pc "$(to)/lib/pkgconfig"
 	install -m 644 LICENSE NOTICE "$(to)/share/doc/promql"
 	umask 022 && bin/manuals "$(to)/share"

@@ -84,6 +84,11 @@ fingerprint() {
     ) | sha256sum | cut -d' ' -f1
 }
 
+# The SONAME of libpromql.so, which has a number (docs/RELEASE.md, "The number of the shared library").
+library_soname() {
+    sed -n 's/^soname=//p' "$root/bindings/c/promql.pc"
+}
+
 # library_fingerprint KIT: the checksum of what the library for C is made from: its crate, as above, and its files of bindings/c.
 library_fingerprint() {
     local sum
@@ -93,7 +98,7 @@ library_fingerprint() {
     (
         cd "$root" || exit
         printf '%s\n' "$sum"
-        sha256sum bindings/c/promql.c bindings/c/promql.h bindings/c/promql.map
+        sha256sum bindings/c/promql.c bindings/c/promql.h bindings/c/promql.map bindings/c/promql.pc
     ) | sha256sum | cut -d' ' -f1
 }
 

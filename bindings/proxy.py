@@ -20,6 +20,7 @@ import json
 import os
 import random
 import re
+import shutil
 import signal
 import socket
 import subprocess
@@ -35,7 +36,9 @@ from pathlib import Path
 from typing import Any
 
 import promql
-from proxy_requests import HONEST_EXEMPLARS, HONEST_PATHS, HONEST_QUERIES, MATCH_PATHS, NOW, SELECTORS_OF_NOW, SELECTORS_OF_SERIES, hostile_requests
+import proxy_alertmanager
+from proxy_requests import CONFLICTS, HONEST_EXEMPLARS, HONEST_PATHS, HONEST_QUERIES, MATCH_PATHS, NOW, SELECTORS_OF_NOW, SELECTORS_OF_SERIES
+from proxy_requests import SHARED, TENANT_PATHS, hostile_requests
 
 ROOT = Path(__file__).resolve().parent.parent
 sys.path[:0] = [str(ROOT / "bin"), str(ROOT / "bench" / "meaning")]
@@ -62,6 +65,7 @@ def series_of(rng: random.Random, tenants: Sequence[str]) -> Iterator[Any]:
     """The series of a store: the same metrics for each tenant, and some that others have alone."""
     for tenant in tenants:
         labels = {"tenant": tenant} if tenant else {}
+        yield Series("shared_info", {**labels, "node": "n"}, [1] * 240)
         if tenant not in ("a", "c.d"):
             labels["mark"] = "hidden_mark"
         for job in ("api", "web", "db"):
@@ -235,10 +239,10 @@ def free_port() -> int:
 class Proxy:
     """The program before a server."""
 
-    def __init__(self, program: str, server: Any, *options: str) -> None:
+    def __init__(self, program: str, upstream: str, *options: str) -> None:
         self.port, self.inside = free_port(), free_port()
         words = [program, "-listen", f"127.0.0.1:{self.port}", "-internal-listen", f"127.0.0.1:{self.inside}"]
-        words += ["-upstream", f"http://127.0.0.1:{server.port}", "-label", "tenant", *options]
+        words += ["-upstream", upstream, "-label", "tenant", *options]
         self.log = tempfile.TemporaryFile()
         self.process = subprocess.Popen(words, stdout=subprocess.DEVNULL, stderr=self.log)
         for _ in range(200):
@@ -274,10 +278,14 @@ class World:
             (self.many, "-tenant-header", "X-Tenant", "-tenant-list"),
             (self.many, "-tenant-parameter", "team"),
             (self.many, "-tenant", "a"),
+            (self.many, "-tenant-path", "/tenants/", "-set-header", "X-Scope-OrgID: {tenant}"),
+            (self.many, "-tenant-header", "X-Tenant", "-error-on-conflict"),
+            (self.many, "-tenant-header", "X-Tenant", "-shared-metric", "shared_info"),
         ):
-            self.proxies.append(Proxy(program, server, *options))
+            self.proxies.append(Proxy(program, f"http://127.0.0.1:{server.port}", *options))
             stack.callback(self.end, self.proxies[-1])
-        self.to_many, self.to_one, self.lists, self.parameters, self.fixed = (it.port for it in self.proxies)
+        ports = [it.port for it in self.proxies]
+        self.to_many, self.to_one, self.lists, self.parameters, self.fixed, self.paths, self.conflicts, self.shared = ports
 
     @staticmethod
     def server(stack: contextlib.ExitStack, folder: Path, port: int, tenants: Sequence[str], rules: str) -> Any:
@@ -346,6 +354,7 @@ def honest_queries(world: World) -> int:
                 check(f"{name}: gzip", get(world.to_many, path, asked, AS_A, "Accept-Encoding: gzip").normal() == found.normal())
                 check(f"{name}: by a parameter", get(world.parameters, path, {**asked, "team": "a"}).normal() == found.normal())
                 check(f"{name}: fixed", get(world.fixed, path, asked).normal() == found.normal())
+                check(f"{name}: by a path", get(world.paths, f"/tenants/a{path}", asked).normal() == found.normal())
     return changed
 
 
@@ -394,6 +403,43 @@ def honest_others(world: World) -> None:
         check(f"{path}: others have more", bool(HIDDEN.search(among.body)), among.body)
 
 
+def honest_without_series(world: World) -> None:
+    """Requests that read no series get what the server says, and values of labels come by POST, too."""
+    for path, parameters in (("/api/v1/format_query", {"query": "sum(rate(a[5m]))by(b)"}), ("/api/v1/status/buildinfo", {})):
+        found = same_for_both(world, path, get_text(path, parameters, AS_A))
+        check(f"{path}: as the server", found.status == 200 and found.body == get(world.many.port, path, parameters).body, found.body)
+    for selectors in SELECTORS_OF_SERIES:
+        asked: dict[str, object] = {"match[]": selectors, "start": NOW - 1200, "end": NOW}
+        path = "/api/v1/label/job/values"
+        check(f"{path} {selectors}: POST", post(world.to_many, path, asked, AS_A).normal() == get(world.to_many, path, asked, AS_A).normal())
+    found = same_for_both(world, "rules by a selector", get_text("/api/v1/rules", {"match[]": '{severity="page"}'}, AS_A))
+    check("rules by a selector are these", b"AlertOfA" in found.body and b"recorded_a" not in found.body, found.body)
+
+
+def conflicts(world: World) -> None:
+    """Where a conflict is an error, a query with another matcher of the label gets none, and any other what it gets without that."""
+    for query, status in CONFLICTS:
+        asked = {"query": query, "time": NOW}
+        found = get(world.conflicts, "/api/v1/query", asked, AS_A)
+        same = status != 200 or found.normal() == get(world.to_many, "/api/v1/query", asked, AS_A).normal()
+        check(f"conflict {query}", found.status == status and same, (found.status, found.body))
+
+
+def shared_metrics(world: World) -> None:
+    """A shared metric is that of all tenants, and no other is, whatever a client asks."""
+    for query, is_whole in SHARED:
+        asked = {"query": query, "time": NOW}
+        found, whole = get(world.shared, "/api/v1/query", asked, AS_A), get(world.many.port, "/api/v1/query", asked)
+        check(f"shared {query}", found.status == 200 and (found.normal() == whole.normal()) == is_whole, (found.body, whole.body))
+        check(f"shared {query}: nothing of others", not HIDDEN.search(found.body), found.body)
+    found = get(world.shared, "/api/v1/series", {"start": NOW - 1200, "end": NOW}, AS_A)
+    names = [it.get("tenant") for it in json.loads(found.body)["data"] if it["__name__"] == "shared_info"]
+    check("all series", sorted(map(str, names)) == ["None", "a", "b", "c.d", "cxd"] and not HIDDEN.search(found.body), found.body)
+    for name, text, _ in hostile_requests():
+        found = send(world.shared, text)
+        check(f"{name}, with a shared metric: nothing of others", not HIDDEN.search(found.body), found.body)
+
+
 def random_queries(world: World) -> int:
     """Queries by all functions and operators: how many there are. Of equal values `topk` and `bottomk` take any."""
     maker, number = Maker(random.Random(1)), 0
@@ -426,7 +472,128 @@ def hostile(world: World) -> int:
     for name, text, _ in hostile_requests("team=a&", ()):
         found = send(world.parameters, text)
         check(f"{name}, by a parameter: nothing of others", not HIDDEN.search(found.body), found.body)
+    for path, status in TENANT_PATHS:
+        found = send(world.paths, request_text("GET", f"{path}/api/v1/query?query=hidden_metric&time={NOW}"))
+        check(f"tenant in {path}: status {status}, nothing of others", found.status == status and not HIDDEN.search(found.body), (found.status, found.body))
     return number
+
+
+# ---- a server that wants to know who asks
+
+# The password of the user proxy, and its bcrypt hash.
+PASSWORD = "word of a"
+PASSWORD_HASH = "$2b$04$abcdefghijklmnopqrstuuMPgdu8gU/etKIiayg92X9D7PP3JQ.Zm"
+
+
+def certificate(folder: Path, name: str) -> tuple[Path, Path]:
+    """The files of a certificate of its own authority, for 127.0.0.1, and of its key."""
+    made, key = folder / f"{name}.crt", folder / f"{name}.key"
+    words = ["openssl", "req", "-x509", "-newkey", "ec", "-pkeyopt", "ec_paramgen_curve:prime256v1", "-nodes", "-days", "1", "-subj", f"/CN={name}"]
+    subprocess.run([*words, "-addext", "subjectAltName=IP:127.0.0.1", "-keyout", key, "-out", made], check=True, capture_output=True)
+    return made, key
+
+
+def words_of(options: Mapping[str, object]) -> Sequence[str]:
+    """The words of a command line for options and their values."""
+    return [str(word) for pair in options.items() for word in pair]
+
+
+def known_proxies(program: str) -> None:
+    """A server that has certificates and passwords answers the proxy that has them, and no other."""
+    if shutil.which("openssl") is None:
+        print("not tried: a server that wants to know who asks: there is no openssl here")
+        return
+    with contextlib.ExitStack() as stack:
+        folder = Path(stack.enter_context(tempfile.TemporaryDirectory()))
+        (server, server_key), (mine, key), (others, others_key) = (certificate(folder, name) for name in ("server", "proxy", "other"))
+        (folder / "web.yml").write_text(
+            f"tls_server_config: {{cert_file: {server}, key_file: {server_key}, client_auth_type: RequireAndVerifyClientCert, client_ca_file: {mine}}}\n"
+            f"basic_auth_users: {{proxy: '{PASSWORD_HASH}'}}\n"
+        )
+        (folder / "prometheus.yml").write_text("{}\n")
+        (folder / "word").write_text(PASSWORD + "\n")
+        (folder / "other word").write_text("another word\n")
+        port = free_port()
+        options = ("--config.file", "prometheus.yml", "--web.config.file", "web.yml", "--storage.tsdb.path", "data")
+        behind = subprocess.Popen(
+            ["prometheus", *options, f"--web.listen-address=127.0.0.1:{port}"], cwd=folder, stdout=subprocess.DEVNULL, stderr=subprocess.DEVNULL
+        )
+        stack.callback(behind.wait, 30)
+        stack.callback(behind.terminate)
+        password = {"-upstream-user": "proxy", "-upstream-password-file": folder / "word"}
+        trust, own = {"-upstream-ca-file": server}, {"-upstream-cert-file": mine, "-upstream-key-file": key}
+        proxy = Proxy(program, f"https://127.0.0.1:{port}", "-tenant", "a", *words_of({**password, **trust, **own}))
+        found = get(proxy.port, "/api/v1/query", {"query": "vector(1)"}, "Authorization: Basic eDp5")
+        check("the proxy that the server knows", found.status == 200 and b'"1"' in found.body, found.body)
+        check("the proxy ends", proxy.end()[0] == 0)
+        for name, wrong in (
+            ("a wrong password", {**password, **trust, **own, "-upstream-password-file": folder / "other word"}),
+            ("no password", {**trust, **own}),
+            ("the certificate of another", {**password, **trust, "-upstream-cert-file": others, "-upstream-key-file": others_key}),
+            ("no certificate", {**password, **trust}),
+            ("a server that is not known", {**password, **own}),
+        ):
+            words = [program, "-upstream", f"https://127.0.0.1:{port}", "-label", "tenant", "-tenant", "a", "-start-timeout", "1s", *words_of(wrong)]
+            ended = subprocess.run(words, capture_output=True, timeout=30, check=False)
+            check(f"{name}: the proxy does not start", ended.returncode == 1 and PASSWORD.encode() not in ended.stderr, ended)
+
+
+# ---- targets of tenants
+
+
+class Targets(BaseHTTPRequestHandler):
+    """Shows the metrics of a target of the tenant that the path names."""
+
+    def do_GET(self) -> None:
+        """Answers."""
+        mine = self.path == "/a"
+        own = "a_gauge 1" if mine else "# HELP hidden_gauge a help\nhidden_gauge 1"
+        text = f"# HELP both_gauge {'of a' if mine else 'hidden help'}\n# TYPE both_gauge gauge\nboth_gauge 1\n# TYPE a_gauge gauge\n{own}\n".encode()
+        self.send_response(200)
+        self.send_header("Content-Type", "text/plain")
+        self.send_header("Content-Length", str(len(text)))
+        self.end_headers()
+        self.wfile.write(text)
+
+    def log_message(self, *_: object) -> None:
+        """Says nothing."""
+
+
+def metadata_of_targets(program: str) -> None:
+    """What is said of metrics is what the targets of the tenant say, whatever others say of a metric of the same name."""
+    with contextlib.ExitStack() as stack:
+        folder = Path(stack.enter_context(tempfile.TemporaryDirectory()))
+        targets = ThreadingHTTPServer(("127.0.0.1", 0), Targets)
+        threading.Thread(target=targets.serve_forever, daemon=True).start()
+        stack.callback(targets.shutdown)
+        found = []
+        for tenants in ("a", "b"), ("a",):
+            text = "global: {scrape_interval: 1s}\nscrape_configs:\n" + "".join(
+                f"- job_name: {it}\n  metrics_path: /{it}\n  static_configs:\n  - targets: ['127.0.0.1:{targets.server_port}']\n    labels: {{tenant: {it}}}\n"
+                for it in tenants
+            )
+            server = Prometheus(folder / "".join(tenants), [Series("up", {}, [1] * 240)], text)
+            stack.callback(server.end)
+            for _ in range(200):
+                if len(json.loads(server.get("/api/v1/targets/metadata?metric=both_gauge")[1]).get("data", ())) == len(tenants):
+                    break
+                time.sleep(0.1)
+            proxy = Proxy(program, f"http://127.0.0.1:{server.port}", "-tenant", "a")
+            stack.callback(proxy.end)
+            parameters = ({}, {"metric": "both_gauge"}, {"metric": "hidden_gauge"}, {"limit": 1}, {"limit_per_metric": 1})
+            found.append([get(proxy.port, "/api/v1/metadata", it).body for it in parameters])
+            alone = server.get("/api/v1/metadata")[1]
+        check("metadata: one answer whatever others have", found[0] == found[1], found)
+        check("metadata: nothing of others", not HIDDEN.search(b"".join(found[0])), found)
+        check("metadata: as the tenant's own server", json.loads(found[0][0]) == json.loads(alone) and b"of a" in found[0][1], (found, alone))
+
+
+def alertmanagers(program: str) -> None:
+    """The paths of an Alertmanager, where Debian's is installed."""
+    if shutil.which("prometheus-alertmanager") is None:
+        print("not tried: the proxy before an Alertmanager: there is no prometheus-alertmanager here")
+        return
+    proxy_alertmanager.compare(check, lambda *options: Proxy(program, *options), free_port)
 
 
 def metrics(world: World) -> None:
@@ -448,10 +615,16 @@ def main() -> int:
         honest_selectors(world)
         honest_federation(world)
         honest_others(world)
+        honest_without_series(world)
+        conflicts(world)
+        shared_metrics(world)
         several_tenants(world)
         made = random_queries(world)
         attacks = hostile(world)
         metrics(world)
+        known_proxies(os.path.abspath(sys.argv[1]))
+        metadata_of_targets(os.path.abspath(sys.argv[1]))
+        alertmanagers(os.path.abspath(sys.argv[1]))
         alive = json.loads(get(world.many.port, "/api/v1/query", {"query": "count(hidden_metric)", "time": NOW}).body)
         check("the server has its data after all that", alive["data"]["result"][0]["value"][1] == "3", alive)
     asked = 2 * len(HONEST_QUERIES) + len(MATCH_PATHS) * len(SELECTORS_OF_SERIES) + len(SELECTORS_OF_NOW) + len(HONEST_EXEMPLARS) + len(HONEST_PATHS)

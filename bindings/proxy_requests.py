@@ -64,6 +64,27 @@ SELECTORS_OF_SERIES: Sequence[Sequence[str]] = (
 )
 SELECTORS_OF_NOW: Sequence[Sequence[str]] = ((), ("live_gauge",), ('{__name__=~"live.*"}', "hidden_live"), ('{tenant=~".+"}',))
 HONEST_EXEMPLARS = ("live_requests_total", '{__name__=~".+"}', "rate(live_requests_total[5m])", 'live_requests_total{tenant="b"}')
+# Queries that have another matcher of the tenant's label, or none, and the status where a conflict is an error.
+CONFLICTS = (
+    ("memory_bytes", 200),
+    ('memory_bytes{tenant="a"}', 200),
+    ('memory_bytes{tenant="b"}', 400),
+    ('sum(rate(http_requests_total{tenant!="b"}[5m]))', 400),
+    ('up{tenant=~"a"}', 400),
+    ('count_values("tenant", up)', 200),
+)
+
+# Queries that name a metric that every tenant sees, and whether the tenant gets what the server gives to the query as it is.
+SHARED = (
+    ("shared_info", True),
+    ('shared_info{tenant="b"}', True),
+    ("count(shared_info)", True),
+    ("rate(shared_info[5m])", True),
+    ("count(memory_bytes)", False),
+    ("shared_info * on (tenant) group_right () memory_bytes", False),
+    ('{__name__="shared_info"}', False),
+    ('{__name__=~"shared_info|hidden_metric"}', False),
+)
 HONEST_PATHS = ("/api/v1/rules", "/api/v1/rules?type=alert", "/api/v1/rules?type=record", "/api/v1/alerts")
 
 # Queries that want to see what is hidden, by the status that they get.
@@ -204,12 +225,36 @@ SELECTORS = (
     (('up{tenant=~"b{900}"}',) * 20, 422),
 )
 
+# Selectors for match[] of /api/v1/rules, and the status.
+RULE_SELECTORS = (
+    ("hidden_recorded", 200),
+    ('{tenant="b"}', 200),
+    ('{tenant=~".*",severity=~".*x?"}', 400),
+    ('{tenant=~".+"}', 200),
+    ('{tenant="b" or severity="page"}', 200),
+    ("{}", 400),
+    ('{tenant="a"} or {tenant="b"}', 400),
+    ('{severity=~"("}', 400),
+    ('{severity=~"b{9999}"}', 422),
+)
+
+# What comes after `?` for /api/v1/metadata, and the status.
+METADATA = (
+    ("", 200),
+    ("metric=hidden_live", 200),
+    ("metric=live_gauge", 200),
+    ("metric=a&metric=hidden_live", 400),
+    ("match_target=%7Btenant%3D%22b%22%7D", 400),
+    ("match%5B%5D=%7Btenant%3D%22b%22%7D", 400),
+    ("limit=x", 400),
+)
+
 # Paths that are not served, or spellings of those that are.
 PATHS = """
 / // /graph /metrics /version /config /-/quit /-/reload /-/ready /debug/pprof/heap /consoles/index.html /static/x /classic/graph
 /api/v1/admin/tsdb/delete_series /api/v1/admin/tsdb/snapshot /api/v1/admin/tsdb/clean_tombstones
-/api/v1/status/config /api/v1/status/flags /api/v1/status/tsdb /api/v1/status/buildinfo /api/v1/status/runtimeinfo /api/v1/status/walreplay
-/api/v1/targets /api/v1/targets/metadata /api/v1/metadata /api/v1/alertmanagers /api/v1/read /api/v1/write /api/v1/format_query
+/api/v1/status/config /api/v1/status/flags /api/v1/status/tsdb /api/v1/status/buildinfo/ /api/v1/status/runtimeinfo /api/v1/status/walreplay
+/api/v1/targets /api/v1/targets/metadata /api/v1/metadata/ /api/v1/alertmanagers /api/v1/read /api/v1/write /api/v1/format_query/
 /api/v1/query/ //api/v1/query /api/v1//query /api/v1/./query /api/v1/label/../query /x/../api/v1/query /api/v1/%71uery /api/v1/query%2f
 /api/v1%2fquery /api/v1/query%00 /api/v1/query%3f /api/v1/query;x=1 /API/V1/QUERY /api/v1/Query /api\\v1\\query /api/v1/query%20
 /api/v1/label//values /api/v1/label/a/b/values /api/v1/label/a%2fb/values /api/v1/label/%61/values /api/v1/label/../values
@@ -217,6 +262,23 @@ PATHS = """
 /api/v1/label/1a/values /api/v1/label/a.b/values /api/v1/label/job/values/ /federate/ /%66ederate /federate/../api/v1/status/config
 /prometheus/api/v1/query /api/v1/rules/ /api/v1/alerts/x /api/v1/series/x
 """.split()
+
+# What comes before /api/v1/query where the tenant is in the path, and the status: another server on the way could read some as tenant b.
+TENANT_PATHS = (
+    ("/tenants/a", 200),
+    ("/tenants/a.*", 400),
+    ("/tenants/%62", 400),
+    ("/tenants/a%2f..%2fb", 400),
+    ("/tenants/b%00", 400),
+    ("/tenants/b;a", 400),
+    ("/tenants/..", 400),
+    ("/tenants/a/../b", 404),
+    ("/tenants//b", 404),
+    ("/tenants/b/", 404),
+    ("/tenants/./b", 404),
+    ("/Tenants/b", 404),
+    ("", 404),
+)
 
 METHODS = ("PUT", "DELETE", "HEAD", "OPTIONS", "PATCH", "TRACE", "get", "PROPFIND", "X")
 
@@ -309,7 +371,7 @@ def hostile_requests(parameters: str = "", headers: Sequence[str] = ("X-Tenant: 
     for method in METHODS:
         for path in ("/api/v1/query", "/federate", "/api/v1/rules"):
             yield f"{method} {path}", head(method, f"{path}?{parameters}query=hidden_live", headers), 405
-    for path in ("/federate", "/api/v1/rules", "/api/v1/alerts", "/api/v1/label/job/values"):
+    for path in ("/federate", "/api/v1/rules", "/api/v1/alerts", "/api/v1/metadata", "/api/v1/status/buildinfo"):
         yield f"POST {path}", head("POST", f"{path}?{parameters}", [*headers, "Content-Length: 0"]), 405
     for more, body, status in BODIES:
         yield f"body {more} {body[:40]!r}", head("POST", f"/api/v1/query?{parameters}", [*headers, *more]) + body.encode(), status
@@ -319,6 +381,9 @@ def hostile_requests(parameters: str = "", headers: Sequence[str] = ("X-Tenant: 
     yield "another address", head("GET", "http://y/api/v1/status/config", headers), 404
     yield "CONNECT", head("CONNECT", "y:80", headers), 404
     yield "alerts of another", head("GET", f"/api/v1/alerts?{parameters}tenant=b", headers), 400
-    yield "rules by match", head("GET", f"/api/v1/rules?{parameters}match[]=hidden", headers), 400
+    for text, status in RULE_SELECTORS:
+        yield f"rules by {text}", head("GET", f"/api/v1/rules?{parameters}match[]={quote(text)}", headers), status
+    for text, status in METADATA:
+        yield f"metadata {text}", head("GET", f"/api/v1/metadata?{parameters}{text}", headers), status
     yield "all exemplars", head("GET", f"/api/v1/query_exemplars?{parameters}query=hidden_live+or+live_requests_total&start=0&end=9999999999", headers), 200
     yield "federate all", head("GET", f'/federate?{parameters}match[]={quote(LIVE[6:])}&match[]=%7Btenant="b"%7D', headers), 200

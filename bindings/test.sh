@@ -9,8 +9,8 @@
 #                                accepts, and the places of errors, in two minutes (bench/meaning, bench/places, bench/targets), where
 #                                Debian's package prometheus is installed; --install does not install it, since Debian starts a service
 #                                then
-# bindings/test.sh --proxy       holds the Go proxy against a Prometheus with several tenants, in half a minute, where that is installed
-#                                (docs/guide/proxy.md)
+# bindings/test.sh --proxy       holds the Go proxy against a Prometheus with several tenants, and an Alertmanager, in half a minute, where
+#                                these are installed (docs/guide/proxy.md)
 # bindings/test.sh --editor      tries the language server in Neovim, in Emacs, and with the extension for VS Code, in half a minute,
 #                                where nvim, emacs and node are installed (docs/guide/editor.md)
 set -u
@@ -488,9 +488,7 @@ test_go() {
     add 'Go' go_tests
     try 'the proxy in Go by the race detector' in_go . test -race ./cmd/promql-proxy/...
     try 'broken texts for Go by its fuzzer' in_go . test -run '^$' -fuzz FuzzQueries -fuzztime 10000x .
-    if has git 'a fork of the module for Go'; then
-        try 'a fork of the module for Go' env GOCACHE="$work/go" "$here/go/test_fork.sh" "$work/go_fork"
-    fi
+    test_go_modules
     try 'the programs for Go' in_go . build -o "$work/go_programs/" ./internal/rows ./internal/bench ./examples/change_queries
     [ -x "$work/go_programs/rows" ] || return
     try 'the bench for Go' bench_prints "$work/go_programs/bench"
@@ -501,6 +499,20 @@ test_go() {
     try 'the queries of the rows' python3 "$here/trees.py" write "$work/queries"
     add 'trees of the rows for Go' "$work/go_programs/rows" trees "$work/queries"
     add 'changed trees for Go' "$work/go_programs/rows" changed "$work/queries" 10000 1
+}
+
+# The ways in which the module becomes a dependency; two of them take it from a commit.
+test_go_modules() {
+    local way
+    try 'the module for Go, replaced' env GOCACHE="$work/go" "$here/go/test_modules.sh" replaced "$work/go_replaced"
+    has git 'the module for Go, proxied and forked' || return
+    if ! git -C "$root" rev-parse --quiet --verify HEAD >/dev/null; then
+        echo 'not tried: the module for Go, proxied and forked: this is not a checkout of git'
+        return
+    fi
+    for way in proxied forked; do
+        try "the module for Go, $way" env GOCACHE="$work/go" "$here/go/test_modules.sh" "$way" "$work/go_$way"
+    done
 }
 
 # ---- examples
@@ -568,6 +580,7 @@ test_attacks() {
         try 'forms for Go by its fuzzer' in_go . test -run '^$' -fuzz FuzzForms -fuzztime 10000x .
         add 'the proxy in Go' go_tests ./cmd/promql-proxy/...
         try 'requests for the proxy by its fuzzer' in_go . test -run '^$' -fuzz FuzzRequests -fuzztime 20000x ./cmd/promql-proxy/internal/front
+        try 'silences for the proxy by its fuzzer' in_go . test -run '^$' -fuzz FuzzSilences -fuzztime 20000x ./cmd/promql-proxy/internal/front
     fi
     has python3 'the page, the tools for rule files and the programs' || return
     add 'small stacks for Python' unit_tests "$here/python" test_promql.py -k Stacks

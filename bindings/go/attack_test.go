@@ -3,12 +3,13 @@ package promql_test
 import (
 	"encoding/json"
 	"errors"
-	"promql"
 	"reflect"
 	"runtime"
 	"strings"
 	"testing"
 	"time"
+
+	"wellapron.example/promql"
 )
 
 const one = `{"type":"numberLiteral","val":"1"}`

@@ -4,10 +4,11 @@ import (
 	"encoding/json"
 	"errors"
 	"fmt"
-	"promql"
 	"reflect"
 	"strings"
 	"testing"
+
+	"wellapron.example/promql"
 )
 
 // joined is so many items, which a format makes of their numbers.

@@ -6,11 +6,11 @@
 // proved of the calls, and what is not, is in docs/guide/bindings.md of the repository.
 package promql
 
-// The library is that of lib/, as fork.sh leaves it, and else that of dist/ in the repository.
+// The library is beside this file in a module that fork.sh or file_proxy.sh made, and in dist/ in the repository.
 
 /*
-#cgo CFLAGS: -I${SRCDIR}/lib -I${SRCDIR}/../../dist
-#cgo LDFLAGS: -L${SRCDIR}/lib -L${SRCDIR}/../../dist -l:libpromql.a
+#cgo CFLAGS: -I${SRCDIR} -I${SRCDIR}/../../dist
+#cgo LDFLAGS: -L${SRCDIR} -L${SRCDIR}/../../dist -l:libpromql.a
 #include "promql.h"
 */
 import "C"

@@ -6,12 +6,13 @@ import (
 	"fmt"
 	"os"
 	"os/exec"
-	"promql"
 	"reflect"
 	"strings"
 	"sync"
 	"testing"
 	"unicode/utf8"
+
+	"wellapron.example/promql"
 )
 
 const long = `sum by (job) (rate(http_requests_total{code=~"5.."}[5m])) / on (job) up > 0.125`

@@ -6,7 +6,7 @@ import (
 	"strings"
 	"testing"
 
-	"promql"
+	"wellapron.example/promql"
 )
 
 func TestTokens(t *testing.T) {

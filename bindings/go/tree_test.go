@@ -5,11 +5,12 @@ import (
 	"errors"
 	"fmt"
 	"math"
-	"promql"
 	"reflect"
 	"strings"
 	"testing"
 	"time"
+
+	"wellapron.example/promql"
 )
 
 func ExampleParse() {

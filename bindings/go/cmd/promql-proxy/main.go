@@ -13,9 +13,10 @@ import (
 	"io"
 	"os"
 	"os/signal"
-	"promql"
-	"promql/cmd/promql-proxy/internal/logs"
 	"syscall"
+
+	"wellapron.example/promql"
+	"wellapron.example/promql/cmd/promql-proxy/internal/logs"
 )
 
 // The statuses with which the program ends.

@@ -6,21 +6,25 @@ import (
 	"fmt"
 	"io"
 	"net/http"
-	"promql"
-	"promql/cmd/promql-proxy/internal/endpoint"
-	"promql/cmd/promql-proxy/internal/logs"
-	"promql/cmd/promql-proxy/internal/tenant"
-	"promql/cmd/promql-proxy/internal/upstream"
-	"regexp"
 	"strings"
 	"time"
+
+	"wellapron.example/promql"
+	"wellapron.example/promql/cmd/promql-proxy/internal/endpoint"
+	"wellapron.example/promql/cmd/promql-proxy/internal/headers"
+	"wellapron.example/promql/cmd/promql-proxy/internal/logs"
+	"wellapron.example/promql/cmd/promql-proxy/internal/tenant"
+	"wellapron.example/promql/cmd/promql-proxy/internal/upstream"
 )
 
 // options are what the command line says.
 type options struct {
 	listen, internalListen, upstream string
+	alertmanager                     string
+	access, alertmanagerAccess       upstream.Access
 	tenants                          tenant.Source
-	more                             words
+	more, shared                     words
+	headers                          headers.Rules
 	readTimeout, writeTimeout        time.Duration
 	idleTimeout, upstreamTimeout     time.Duration
 	startTimeout, stopTimeout        time.Duration
@@ -28,6 +32,7 @@ type options struct {
 	maxQuery, maxPatterns            uint
 	maxRequests                      int
 	logQueries, version              bool
+	errorOnConflict                  bool
 	logLevel, target                 string
 }
 
@@ -69,11 +74,19 @@ func (o *options) flags(out io.Writer) *flag.FlagSet {
 	flags.StringVar(&o.listen, "listen", "localhost:9091", "the address for clients")
 	flags.StringVar(&o.internalListen, "internal-listen", "", "the address for metrics, health and readiness; none where it is empty")
 	flags.StringVar(&o.upstream, "upstream", "http://localhost:9090", "the Prometheus")
+	addAccess(flags, &o.access, "upstream", "Prometheus")
+	flags.StringVar(&o.alertmanager, "alertmanager", "", "the Alertmanager, whose alerts and silences are served, too; none where it is empty")
+	addAccess(flags, &o.alertmanagerAccess, "alertmanager", "Alertmanager")
 	flags.StringVar(&o.tenants.Label, "label", "", "the label that names the tenant of a series, such as tenant")
 	flags.Var((*words)(&o.tenants.Fixed), "tenant", "the tenant of all clients; several times for several tenants")
 	flags.StringVar(&o.tenants.Header, "tenant-header", "", "the header that has the tenant of a request")
 	flags.StringVar(&o.tenants.Parameter, "tenant-parameter", "", "the parameter of the address that has the tenant of a request")
-	flags.BoolVar(&o.tenants.List, "tenant-list", false, "the header or the parameter has several tenants, with commas between them")
+	flags.StringVar(&o.tenants.Path, "tenant-path", "", "what comes before the tenant in each path, as in /tenants/ for /tenants/team-a/api/v1/query")
+	flags.BoolVar(&o.tenants.List, "tenant-list", false, "the header, the parameter or the path has several tenants, with commas between them")
+	flags.Func("pass-header", "the name of a header of the client that the Prometheus gets; several times for several", o.headers.Pass)
+	flags.Func("set-header", "a header that the Prometheus gets, as in 'X-Scope-OrgID: {tenant}'; several times for several", o.headers.Set)
+	flags.BoolVar(&o.errorOnConflict, "error-on-conflict", false, "reject queries that have another matcher of the label of the tenant")
+	flags.Var(&o.shared, "shared-metric", "the name of a metric that every tenant sees whole; several times for several")
 	flags.Var(&o.more, "pass-parameter", "the name of one more parameter that the Prometheus gets; several times for several")
 	o.addLimits(flags)
 	flags.StringVar(&o.target, "target", "prometheus-3", "what reads the queries: prometheus-3, or rules, to let byte escapes through")
@@ -81,6 +94,16 @@ func (o *options) flags(out io.Writer) *flag.FlagSet {
 	flags.BoolVar(&o.logQueries, "log-queries", false, "log queries, selectors and messages about them")
 	flags.BoolVar(&o.version, "version", false, "print the version and end")
 	return flags
+}
+
+// addAccess adds the flags for the access to a server, each with a word before it.
+func addAccess(flags *flag.FlagSet, access *upstream.Access, word, server string) {
+	flags.StringVar(&access.User, word+"-user", "", "the user of the proxy for the "+server)
+	flags.StringVar(&access.PasswordFile, word+"-password-file", "", "the file with the password of this user")
+	flags.StringVar(&access.BearerFile, word+"-bearer-file", "", "the file with a token for the "+server)
+	flags.StringVar(&access.CAFile, word+"-ca-file", "", "the file with the authorities for the certificate of the "+server)
+	flags.StringVar(&access.CertFile, word+"-cert-file", "", "the file with the certificate of the proxy for the "+server)
+	flags.StringVar(&access.KeyFile, word+"-key-file", "", "the file with the key of this certificate")
 }
 
 func (o *options) addLimits(flags *flag.FlagSet) {
@@ -97,18 +120,16 @@ func (o *options) addLimits(flags *flag.FlagSet) {
 	flags.UintVar(&o.maxPatterns, "max-patterns", 16000, "the largest size of a query's patterns together")
 }
 
-// The name of a header that may have the tenant.
-var headerName = regexp.MustCompile(`^[A-Za-z][A-Za-z0-9-]*$`)
-
 // check says what is wrong with the options.
 func (o *options) check() error {
 	if err := o.tenants.Check(); err != nil {
 		return err
 	}
-	if o.tenants.Header != "" && !isFree(o.tenants.Header) {
-		return fmt.Errorf("-tenant-header: %q is not the name of a header that can have a tenant", o.tenants.Header)
+	if err := o.checkHeaders(); err != nil {
+		return err
 	}
 	table := endpoint.NewTable(nil)
+	table.AddAlertmanager()
 	for _, name := range append([]string{o.tenants.Parameter}, o.more...) {
 		if table.Takes(name) {
 			return fmt.Errorf("-tenant-parameter, -pass-parameter: %q has a meaning of its own", name)
@@ -119,26 +140,58 @@ func (o *options) check() error {
 			return fmt.Errorf("-pass-parameter: %q is not passed on", name)
 		}
 	}
+	if err := endpoint.CheckShared(o.shared); err != nil {
+		return fmt.Errorf("-shared-metric: %w", err)
+	}
 	if _, err := promql.ParseTarget(o.target); err != nil {
 		return fmt.Errorf("-target: %w", err)
 	}
 	if _, err := logs.ParseLevel(o.logLevel); err != nil {
 		return fmt.Errorf("-log-level: %w", err)
 	}
-	if _, err := upstream.New(o.upstream); err != nil {
+	if _, err := upstream.New(o.upstream, o.access); err != nil {
 		return fmt.Errorf("-upstream: %w", err)
+	}
+	if _, err := o.newAlertmanager(); err != nil {
+		return fmt.Errorf("-alertmanager: %w", err)
 	}
 	return o.checkLimits()
 }
 
-// isFree says whether a header has no meaning to HTTP, so that it can have a tenant.
-func isFree(header string) bool {
-	switch http.CanonicalHeaderKey(header) {
-	case "Host", "Connection", "Keep-Alive", "Transfer-Encoding", "Content-Length", "Content-Type", "Content-Encoding", "Trailer", "Te",
-		"Upgrade", "Expect", "Accept", "Accept-Encoding":
-		return false
+// newAlertmanager returns the Alertmanager, or nil where there is none.
+func (o *options) newAlertmanager() (*upstream.Server, error) {
+	if o.alertmanager == "" {
+		if o.alertmanagerAccess != (upstream.Access{}) {
+			return nil, errors.New("there is none for these credentials")
+		}
+		return nil, nil
 	}
-	return headerName.MatchString(header)
+	return upstream.New(o.alertmanager, o.alertmanagerAccess)
+}
+
+func (o *options) checkHeaders() error {
+	if o.tenants.Header != "" && !headers.IsFree(o.tenants.Header) {
+		return fmt.Errorf("-tenant-header: %q is not the name of a header that can have a tenant", o.tenants.Header)
+	}
+	for _, name := range o.headers.Passed() {
+		if name == http.CanonicalHeaderKey(o.tenants.Header) {
+			return fmt.Errorf("-pass-header: %s has the tenant: -set-header '%s: %s' gives it to the Prometheus", name, name, headers.Placeholder)
+		}
+	}
+	if (o.access.HasAuthorization() || o.alertmanagerAccess.HasAuthorization()) && o.headers.Has("Authorization") {
+		return errors.New("-pass-header: the server behind gets the Authorization of the proxy")
+	}
+	if len(o.tenants.Fixed) == 0 {
+		return nil
+	}
+	fixed, err := tenant.New(o.tenants.Label, o.tenants.Fixed)
+	if err != nil {
+		return err
+	}
+	if _, failed := o.headers.Of(nil, fixed); failed != nil {
+		return fmt.Errorf("-set-header: %w", failed)
+	}
+	return nil
 }
 
 func (o *options) checkLimits() error {

@@ -6,13 +6,14 @@ import (
 	"fmt"
 	"net"
 	"net/http"
-	"promql"
-	"promql/cmd/promql-proxy/internal/endpoint"
-	"promql/cmd/promql-proxy/internal/front"
-	"promql/cmd/promql-proxy/internal/logs"
-	"promql/cmd/promql-proxy/internal/metrics"
-	"promql/cmd/promql-proxy/internal/upstream"
 	"time"
+
+	"wellapron.example/promql"
+	"wellapron.example/promql/cmd/promql-proxy/internal/endpoint"
+	"wellapron.example/promql/cmd/promql-proxy/internal/front"
+	"wellapron.example/promql/cmd/promql-proxy/internal/logs"
+	"wellapron.example/promql/cmd/promql-proxy/internal/metrics"
+	"wellapron.example/promql/cmd/promql-proxy/internal/upstream"
 )
 
 const (
@@ -32,9 +33,17 @@ type service struct {
 
 // newService returns the service that the options, which are right, ask for.
 func newService(o *options, log *logs.Logger) (*service, error) {
-	behind, err := upstream.New(o.upstream)
+	behind, err := upstream.New(o.upstream, o.access)
 	if err != nil {
 		return nil, err
+	}
+	alertmanager, err := o.newAlertmanager()
+	if err != nil {
+		return nil, err
+	}
+	table := endpoint.NewTable(o.more)
+	if alertmanager != nil {
+		table.AddAlertmanager()
 	}
 	promql.SetLimits(o.maxQuery, o.maxPatterns)
 	target, err := promql.ParseTarget(o.target)
@@ -49,16 +58,20 @@ func newService(o *options, log *logs.Logger) (*service, error) {
 	}
 	counted := metrics.New(time.Now())
 	handler := &front.Front{
-		Upstream:   behind,
-		Tenants:    o.tenants,
-		Table:      endpoint.NewTable(o.more),
-		Metrics:    counted,
-		Log:        log,
-		LogQueries: o.logQueries,
-		Places:     make(chan struct{}, o.maxRequests),
-		MaxBody:    o.maxBody,
-		MaxAnswer:  o.maxAnswer,
-		Timeout:    o.upstreamTimeout,
+		Upstream:        behind,
+		Alertmanager:    alertmanager,
+		Tenants:         o.tenants,
+		Headers:         o.headers,
+		RejectConflicts: o.errorOnConflict,
+		Shared:          o.shared,
+		Table:           table,
+		Metrics:         counted,
+		Log:             log,
+		LogQueries:      o.logQueries,
+		Places:          make(chan struct{}, o.maxRequests),
+		MaxBody:         o.maxBody,
+		MaxAnswer:       o.maxAnswer,
+		Timeout:         o.upstreamTimeout,
 	}
 	s := &service{options: o, log: log, behind: behind, internal: &front.Internal{Metrics: counted}}
 	s.clients = s.server(handler, o.writeTimeout)

@@ -11,9 +11,10 @@ import (
 	"bufio"
 	"fmt"
 	"os"
-	"promql"
 	"sort"
 	"strings"
+
+	"wellapron.example/promql"
 )
 
 // change is what is done to a query.

@@ -8,10 +8,11 @@ import (
 	"fmt"
 	"log"
 	"os"
-	"promql"
 	"strconv"
 	"strings"
 	"time"
+
+	"wellapron.example/promql"
 )
 
 const times = 20

@@ -16,9 +16,10 @@ import (
 	"log"
 	"math/rand"
 	"os"
-	"promql"
 	"strconv"
 	"sync"
+
+	"wellapron.example/promql"
 )
 
 type call struct {

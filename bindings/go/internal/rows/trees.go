@@ -7,10 +7,11 @@ import (
 	"fmt"
 	"log"
 	"math/rand"
-	"promql"
 	"reflect"
 	"sort"
 	"strings"
+
+	"wellapron.example/promql"
 )
 
 // report counts what is checked, and why trees are not printed.

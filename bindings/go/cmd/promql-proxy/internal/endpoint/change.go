@@ -1,55 +1,79 @@
 package endpoint
 
 import (
-	"encoding/json"
 	"errors"
 	"fmt"
 	"net/http"
 	"net/url"
-	"promql"
-	"promql/cmd/promql-proxy/internal/failure"
+	"strconv"
 	"strings"
+
+	"wellapron.example/promql"
+	"wellapron.example/promql/cmd/promql-proxy/internal/failure"
+	"wellapron.example/promql/cmd/promql-proxy/internal/filter"
 )
 
 // The most selectors of a request.
 const maxSelectors = 100
 
 // changeQuery puts the matcher into each selector of the query.
-func changeQuery(parameters url.Values, matcher string) *failure.Error {
-	if len(parameters[queryName]) != 1 {
-		return failure.Bad(failure.Query, `there has to be one parameter "query"`)
+func changeQuery(plan *Plan, enforcement Enforcement) *failure.Error {
+	query, failed := one(plan.Parameters)
+	if failed != nil {
+		return failed
 	}
-	changed, err := promql.Enforce(parameters.Get(queryName), matcher)
-	if err != nil {
-		return rejected(err)
+	changed, failed := enforcement.enforce(query)
+	if failed != nil {
+		return failed
 	}
-	parameters.Set(queryName, changed)
+	plan.Parameters.Set(queryName, changed)
 	return nil
 }
 
-// changeSelectors puts the matcher into each selector that the answer is asked for. Where there is none, the matcher alone is one.
-func changeSelectors(parameters url.Values, matcher string) *failure.Error {
-	selectors := parameters[matchName]
-	if len(selectors) == 0 {
-		changed, err := promql.Enforce("{"+matcher+"}", matcher)
-		if err != nil {
-			return rejected(err)
-		}
-		parameters.Set(matchName, changed)
-		return nil
+// checkQuery leaves a query as it is, of which no series are read, and so no tenant's.
+func checkQuery(plan *Plan, _ Enforcement) *failure.Error {
+	query, failed := one(plan.Parameters)
+	if failed != nil {
+		return failed
 	}
-	if err := checkTogether(selectors); err != nil {
-		return err
+	if err := promql.Check(query); err != nil {
+		return rejected(err)
+	}
+	return nil
+}
+
+// one returns the query of a request, which has one.
+func one(parameters url.Values) (string, *failure.Error) {
+	if len(parameters[queryName]) != 1 {
+		return "", failure.Bad(failure.Query, `there has to be one parameter "query"`)
+	}
+	return parameters.Get(queryName), nil
+}
+
+// changeSelectors puts the matcher into each selector that the answer is asked for. Where there is none, the matcher alone is one, and the
+// name of each shared metric.
+func changeSelectors(plan *Plan, enforcement Enforcement) *failure.Error {
+	selectors := plan.Parameters[matchName]
+	if len(selectors) == 0 {
+		selectors = append([]string{"{" + enforcement.Tenant.Matcher() + "}"}, enforcement.Shared...)
+	} else if failed := checkTogether(selectors); failed != nil {
+		return failed
 	}
 	changed := make([]string, len(selectors))
 	for i, selector := range selectors {
 		var failed *failure.Error
-		if changed[i], failed = changeSelector(selector, matcher); failed != nil {
+		if changed[i], _, failed = changeSelector(selector, enforcement); failed != nil {
 			return failed
 		}
 	}
-	parameters[matchName] = changed
+	plan.Parameters[matchName] = changed
 	return nil
+}
+
+// changeValues does the same for the values of a label, which Prometheus has for GET alone.
+func changeValues(plan *Plan, enforcement Enforcement) *failure.Error {
+	plan.Method = http.MethodGet
+	return changeSelectors(plan, enforcement)
 }
 
 // checkTogether says whether the selectors are too many or too large together. Each of them has the limits of a query, so without this a
@@ -67,50 +91,100 @@ func checkTogether(selectors []string) *failure.Error {
 	return nil
 }
 
-// changeSelector puts the matcher into a text that is one selector, without offset and @, and nothing else.
-func changeSelector(selector, matcher string) (string, *failure.Error) {
-	changed, err := promql.Enforce(selector, matcher)
-	if err != nil {
-		failed := rejected(err)
+// changeSelector puts the matcher into a text that is one selector, without offset and @, and nothing else. It returns the text and its
+// selection.
+func changeSelector(selector string, enforcement Enforcement) (string, *promql.Selection, *failure.Error) {
+	changed, failed := enforcement.enforce(selector)
+	if failed != nil {
 		failed.Message = "match[]: " + failed.Message
-		return "", failed
+		return "", nil, failed
 	}
-	tree, err := promql.JSON(changed)
+	tree, err := promql.Parse(changed)
+	if err != nil {
+		return "", nil, rejected(err)
+	}
+	found, is := tree.(*promql.VectorSelector)
+	if !is || found.Offset != (promql.Offset{}) || found.StartOrEnd != "" || found.Timestamp != nil {
+		return "", nil, failure.Bad(failure.Query, "match[]: it is not a selector alone")
+	}
+	return changed, &found.Selection, nil
+}
+
+// filterRules keeps the rules of a tenant, and of these the ones whose labels a selector selects, if there are some.
+func filterRules(plan *Plan, enforcement Enforcement) *failure.Error {
+	selectors := plan.Parameters[matchName]
+	plan.Parameters.Del(matchName)
+	if failed := checkTogether(selectors); failed != nil {
+		return failed
+	}
+	var read filter.Selectors
+	for _, selector := range selectors {
+		// A rule has no name of a metric that could be shared.
+		_, selection, failed := changeSelector(selector, Enforcement{Tenant: enforcement.Tenant, RejectConflicts: enforcement.RejectConflicts})
+		if failed != nil {
+			return failed
+		}
+		if err := read.Add(selection); err != nil {
+			return failure.Bad(failure.Query, "match[]: "+err.Error())
+		}
+	}
+	plan.Filter = func(answer []byte) ([]byte, error) {
+		selects := func(labels map[string]string) bool { return enforcement.Tenant.Allows(labels) && read.Select(labels) }
+		kept, err := filter.Rules(answer, selects, enforcement.Tenant.Allows)
+		if err == nil {
+			err = read.Err()
+		}
+		return kept, err
+	}
+	return nil
+}
+
+// filterAlerts keeps the alerts of a tenant.
+func filterAlerts(plan *Plan, enforcement Enforcement) *failure.Error {
+	plan.Filter = func(answer []byte) ([]byte, error) {
+		return filter.Alerts(answer, enforcement.Tenant.Allows)
+	}
+	return nil
+}
+
+// changeMetadata asks for what the targets of the tenant say of their metrics. What /api/v1/metadata says is of all targets, without a label.
+func changeMetadata(plan *Plan, enforcement Enforcement) *failure.Error {
+	limits := [2]int{-1, 0}
+	for i, name := range []string{"limit", "limit_per_metric"} {
+		text := plan.Parameters.Get(name)
+		if text == "" {
+			continue
+		}
+		number, err := strconv.Atoi(text)
+		if err != nil {
+			return failure.Bad(failure.Parameter, fmt.Sprintf("the parameter %q is not a number", name))
+		}
+		limits[i] = number
+	}
+	metric := plan.Parameters.Get("metric")
+	selector, failed := enforcement.matcherAlone()
+	if failed != nil {
+		return failed
+	}
+	plan.Path = prefix + "targets/metadata"
+	plan.Parameters = url.Values{"match_target": {selector}}
+	if metric != "" {
+		plan.Parameters.Set("metric", metric)
+	}
+	plan.Nothing = filter.NoMetadata()
+	plan.Filter = func(answer []byte) ([]byte, error) {
+		return filter.Metadata(answer, metric, limits[0], limits[1], enforcement.Tenant.Allows)
+	}
+	return nil
+}
+
+// matcherAlone returns a selector that has the tenant's matcher and no other.
+func (e Enforcement) matcherAlone() (string, *failure.Error) {
+	selector, err := promql.Enforce("{"+e.Tenant.Matcher()+"}", e.Tenant.Matcher())
 	if err != nil {
 		return "", rejected(err)
 	}
-	var found struct {
-		Type       string
-		Offset     json.Number
-		StartOrEnd *string
-		Timestamp  *json.Number
-	}
-	if err := json.Unmarshal(tree, &found); err != nil {
-		return "", internal(failure.Query, "the selector cannot be read", nil)
-	}
-	if found.Type != "vectorSelector" || found.Offset != "0" || found.StartOrEnd != nil || found.Timestamp != nil {
-		return "", failure.Bad(failure.Query, "match[]: it is not a selector alone")
-	}
-	return changed, nil
-}
-
-// rejected returns what the client is told where the library does not give a text.
-func rejected(err error) *failure.Error {
-	var found *promql.QueryError
-	switch {
-	case errors.Is(err, promql.ErrOutOfMemory) || errors.Is(err, promql.ErrSmallStack):
-		return internal(failure.Memory, err.Error(), err)
-	case errors.Is(err, promql.ErrUnfaithful):
-		return internal(failure.Query, err.Error(), promql.ErrUnfaithful)
-	case errors.Is(err, promql.ErrTooLarge) || errors.Is(err, promql.ErrLargeEnforced):
-		return tooMuch(err.Error())
-	case errors.Is(err, promql.ErrBareInfo):
-		return &failure.Error{Status: http.StatusUnprocessableEntity, Kind: failure.Execution, Reason: failure.Query, Message: err.Error()}
-	case errors.As(err, &found) || errors.Is(err, promql.ErrNotUTF8):
-		return failure.Bad(failure.Query, err.Error())
-	}
-	// The matcher is the proxy's own, so this is no fault of the client's.
-	return internal(failure.Query, "the matcher cannot be enforced", err)
+	return selector, nil
 }
 
 // internal returns a fault that is not the client's. The cause is for the log, so it shows no query.
@@ -118,6 +192,10 @@ func internal(reason failure.Reason, message string, cause error) *failure.Error
 	return &failure.Error{Status: http.StatusInternalServerError, Kind: failure.Internal, Reason: reason, Message: message, Cause: cause}
 }
 
+func execution(reason failure.Reason, message string) *failure.Error {
+	return &failure.Error{Status: http.StatusUnprocessableEntity, Kind: failure.Execution, Reason: reason, Message: message}
+}
+
 func tooMuch(message string) *failure.Error {
-	return &failure.Error{Status: http.StatusUnprocessableEntity, Kind: failure.Execution, Reason: failure.Limit, Message: message}
+	return execution(failure.Limit, message)
 }

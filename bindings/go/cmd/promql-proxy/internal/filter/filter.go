@@ -10,6 +10,8 @@ import (
 // Allows says whether a tenant may see what has these labels.
 type Allows func(labels map[string]string) bool
 
+var errNoSuccess = errors.New("its status is not success")
+
 // object is a JSON object whose members are read one by one.
 type object map[string]json.RawMessage
 
@@ -18,16 +20,16 @@ func groupMembers() []string {
 	return []string{"name", "file", "interval", "limit", "evaluationTime", "lastEvaluation"}
 }
 
-// Rules returns an answer of /api/v1/rules with the rules that have the tenant's label, the alerts of these that have it, and the groups
+// Rules returns an answer of /api/v1/rules with the rules that are selected, the alerts of these that the tenant may see, and the groups
 // that have such a rule.
-func Rules(answer []byte, allows Allows) ([]byte, error) {
+func Rules(answer []byte, selects, allows Allows) ([]byte, error) {
 	groups, err := listIn(answer, "groups")
 	if err != nil {
 		return nil, err
 	}
 	kept := []object{}
 	for _, group := range groups {
-		rules, err := rulesOf(group, allows)
+		rules, err := rulesOf(group, selects, allows)
 		if err != nil {
 			return nil, err
 		}
@@ -54,13 +56,13 @@ func Alerts(answer []byte, allows Allows) ([]byte, error) {
 	return success("alerts", kept)
 }
 
-// rulesOf returns the rules of a group that have the tenant's label.
-func rulesOf(group object, allows Allows) ([]object, error) {
+// rulesOf returns the rules of a group that are selected, with the alerts that the tenant may see.
+func rulesOf(group object, selects, allows Allows) ([]object, error) {
 	rules, err := list(group, "rules")
 	if err != nil {
 		return nil, err
 	}
-	kept, err := allowed(rules, allows)
+	kept, err := allowed(rules, selects)
 	if err != nil {
 		return nil, err
 	}
@@ -109,7 +111,7 @@ func listIn(answer []byte, name string) ([]object, error) {
 		return nil, err
 	}
 	if read.Status != "success" {
-		return nil, errors.New("its status is not success")
+		return nil, errNoSuccess
 	}
 	return list(read.Data, name)
 }

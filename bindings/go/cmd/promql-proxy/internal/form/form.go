@@ -9,10 +9,11 @@ import (
 	"net/http"
 	"net/url"
 	"os"
-	"promql/cmd/promql-proxy/internal/failure"
 	"sort"
 	"strings"
 	"unicode/utf8"
+
+	"wellapron.example/promql/cmd/promql-proxy/internal/failure"
 )
 
 // MediaType is that of a body which is read.
@@ -24,28 +25,41 @@ const (
 	maxValue      = 4096
 )
 
-// Read returns the parameters of the address and those of the body, which has so many bytes at most. The body of a GET means nothing. It is
-// read all the same, since the server does not see a client leave whose body is not read.
-func Read(w http.ResponseWriter, r *http.Request, maxBody int64) (address, body url.Values, failed *failure.Error) {
-	address, err := parse(r.URL.RawQuery)
-	if err != nil {
-		return nil, nil, failure.Bad(failure.Parameter, "the address: "+err.Error())
+// JSONType is that of a body which is read as JSON.
+const JSONType = "application/json"
+
+// Sent is what a request has: the parameters of its address, and its body, which is a form or JSON.
+type Sent struct {
+	Address, Form url.Values
+	JSON          []byte
+}
+
+// Read returns what a request has, with a body of this type that has so many bytes at most. Where the method is not POST, the body means
+// nothing. It is read all the same, since the server does not see a client leave whose body is not read.
+func Read(w http.ResponseWriter, r *http.Request, mediaType string, maxBody int64) (Sent, *failure.Error) {
+	sent := Sent{Form: url.Values{}}
+	var err error
+	if sent.Address, err = parse(r.URL.RawQuery); err != nil {
+		return sent, failure.Bad(failure.Parameter, "the address: "+err.Error())
 	}
 	text, err := io.ReadAll(http.MaxBytesReader(w, r.Body, maxBody))
 	if err != nil {
-		return nil, nil, unread(err, maxBody)
+		return sent, unread(err, maxBody)
 	}
-	if len(text) == 0 || r.Method == http.MethodGet {
-		return address, url.Values{}, nil
+	if len(text) == 0 || r.Method != http.MethodPost {
+		return sent, nil
 	}
-	if err := checkForm(r.Header); err != nil {
-		return nil, nil, failure.Bad(failure.Body, err.Error())
+	if err := checkType(r.Header, mediaType); err != nil {
+		return sent, failure.Bad(failure.Body, err.Error())
 	}
-	body, err = parse(string(text))
-	if err != nil {
-		return nil, nil, failure.Bad(failure.Parameter, "the body: "+err.Error())
+	if mediaType == JSONType {
+		sent.JSON = text
+		return sent, nil
 	}
-	return address, body, nil
+	if sent.Form, err = parse(string(text)); err != nil {
+		return sent, failure.Bad(failure.Parameter, "the body: "+err.Error())
+	}
+	return sent, nil
 }
 
 func unread(err error, maxBody int64) *failure.Error {
@@ -60,8 +74,8 @@ func unread(err error, maxBody int64) *failure.Error {
 	return failure.Bad(failure.Body, "the body cannot be read")
 }
 
-// checkForm says why the body is not a form that can be read as it is.
-func checkForm(header http.Header) error {
+// checkType says why the body is not one of this type that can be read as it is.
+func checkType(header http.Header, mediaType string) error {
 	for _, encoding := range header.Values("Content-Encoding") {
 		if !strings.EqualFold(encoding, "identity") {
 			return errors.New("the body has a Content-Encoding")
@@ -69,11 +83,11 @@ func checkForm(header http.Header) error {
 	}
 	types := header.Values("Content-Type")
 	if len(types) == 1 {
-		if found, _, err := mime.ParseMediaType(types[0]); err == nil && found == MediaType {
+		if found, _, err := mime.ParseMediaType(types[0]); err == nil && found == mediaType {
 			return nil
 		}
 	}
-	return fmt.Errorf("the body is not %s", MediaType)
+	return fmt.Errorf("the body is not %s", mediaType)
 }
 
 func parse(text string) (url.Values, error) {

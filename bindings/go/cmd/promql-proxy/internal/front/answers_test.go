@@ -257,7 +257,7 @@ func TestRulesAndAlerts(t *testing.T) {
 	if wanted := `{"data":{"alerts":[{"labels":{"tenant":"team-a"},"value":"1"},{"labels":{"tenant":"team-b"}}]},"status":"success"}`; body != wanted {
 		t.Error(body)
 	}
-	for _, path := range []string{rules + "?match[]=a", rules + "?group_limit=1", rules + "?type=alert&type=record", "/api/v1/alerts?x=1"} {
+	for _, path := range []string{rules + "?match[]=a-b", rules + "?group_limit=1", rules + "?type=alert&type=record", "/api/v1/alerts?x=1"} {
 		response, body := proxy.do(t, request{method: "GET", target: path})
 		checkError(t, path, response, body, http.StatusBadRequest, "bad_data")
 	}
@@ -292,7 +292,7 @@ func TestLogAndMetrics(t *testing.T) {
 		for _, wanted := range []string{
 			`promql_proxy_requests_total{endpoint="query",method="GET",code="200"} 1`, `promql_proxy_requests_total{endpoint="query",method="GET",code="400"} 1`,
 			`promql_proxy_requests_total{endpoint="none",method="GET",code="404"} 1`, `promql_proxy_requests_total{endpoint="query",method="other",code="405"} 1`,
-			`promql_proxy_requests_refused_total{reason="query"} 2`, `promql_proxy_upstream_responses_total{code="200"} 1`,
+			`promql_proxy_requests_refused_total{reason="query"} 2`, `promql_proxy_upstream_responses_total{server="prometheus",code="200"} 1`,
 			`promql_proxy_request_duration_seconds_count{endpoint="query"} 3`, "promql_proxy_requests_in_flight 0",
 		} {
 			if !strings.Contains(page.String(), wanted+"\n") {

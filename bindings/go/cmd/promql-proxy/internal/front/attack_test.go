@@ -119,9 +119,9 @@ func TestPathsThatAreRefused(t *testing.T) {
 	for _, path := range strings.Fields(`
 		/ // /api /api/v1 /api/v1/ /graph /metrics /version /config /-/quit /-/reload /-/healthy /debug/pprof/heap /static/x
 		/api/v1/admin/tsdb/delete_series /api/v1/admin/tsdb/snapshot /api/v1/admin/tsdb/clean_tombstones
-		/api/v1/status/config /api/v1/status/flags /api/v1/status/tsdb /api/v1/status/buildinfo /api/v1/status/runtimeinfo /api/v1/status/walreplay
-		/api/v1/targets /api/v1/targets/metadata /api/v1/metadata /api/v1/alertmanagers /api/v1/read /api/v1/write /api/v1/format_query
-		/api/v1/scrape_pools /api/v1/parse_query /api/v1/otlp/v1/metrics /api/v2/alerts /api/v2/silences
+		/api/v1/status/config /api/v1/status/flags /api/v1/status/tsdb /api/v1/status/buildinfo/ /api/v1/status/runtimeinfo /api/v1/status/walreplay
+		/api/v1/targets /api/v1/targets/metadata /api/v1/metadata/ /api/v1/alertmanagers /api/v1/read /api/v1/write /api/v1/format_query/
+		/api/v1/scrape_pools /api/v1/parse_query/x /api/v1/status /api/v1/otlp/v1/metrics /api/v2/alerts /api/v2/silences
 		/api/v1/query/ //api/v1/query /api/v1//query /api/v1/./query /api/v1/label/../query /./api/v1/query /x/../api/v1/query
 		/api/v1/%71uery /api/v1/query%2f /api/v1%2fquery /api/v1/query%00 /api/v1/query%3f /api/v1/query%23 /api/v1/query; /api/v1/query;x=1
 		/api/v1/query%20 /api/v1/query%0a /API/V1/QUERY /api/v1/Query /api/v1/query.json /api/v1/query\x /api\v1\query /api/v1/qu%65ry
@@ -145,7 +145,8 @@ func TestMethodsThatAreRefused(t *testing.T) {
 	get, both := "GET", "GET, POST"
 	for path, allow := range map[string]string{
 		"/api/v1/query": both, "/api/v1/query_range": both, "/api/v1/query_exemplars": both, "/api/v1/series": both, "/api/v1/labels": both,
-		"/api/v1/label/a/values": get, "/federate": get, "/api/v1/rules": get, "/api/v1/alerts": get,
+		"/api/v1/label/a/values": both, "/api/v1/format_query": both, "/api/v1/parse_query": both, "/federate": get, "/api/v1/metadata": get,
+		"/api/v1/status/buildinfo": get, "/api/v1/rules": get, "/api/v1/alerts": get,
 	} {
 		for _, method := range []string{"PUT", "DELETE", "HEAD", "OPTIONS", "PATCH", "TRACE", "get", "Get", "PROPFIND", "POST"} {
 			if strings.HasSuffix(allow, method) {

@@ -3,11 +3,12 @@ package front
 import (
 	"fmt"
 	"net/http"
-	"promql/cmd/promql-proxy/internal/failure"
-	"promql/cmd/promql-proxy/internal/logs"
 	"runtime/debug"
 	"strings"
 	"time"
+
+	"wellapron.example/promql/cmd/promql-proxy/internal/failure"
+	"wellapron.example/promql/cmd/promql-proxy/internal/logs"
 )
 
 // refuse tells the client an error.

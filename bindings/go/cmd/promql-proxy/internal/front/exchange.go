@@ -8,14 +8,15 @@ import (
 	"mime"
 	"net"
 	"net/http"
-	"net/url"
-	"promql/cmd/promql-proxy/internal/endpoint"
-	"promql/cmd/promql-proxy/internal/failure"
-	"promql/cmd/promql-proxy/internal/form"
-	"promql/cmd/promql-proxy/internal/tenant"
-	"promql/cmd/promql-proxy/internal/upstream"
 	"strings"
 	"time"
+
+	"wellapron.example/promql/cmd/promql-proxy/internal/endpoint"
+	"wellapron.example/promql/cmd/promql-proxy/internal/failure"
+	"wellapron.example/promql/cmd/promql-proxy/internal/filter"
+	"wellapron.example/promql/cmd/promql-proxy/internal/form"
+	"wellapron.example/promql/cmd/promql-proxy/internal/tenant"
+	"wellapron.example/promql/cmd/promql-proxy/internal/upstream"
 )
 
 // exchange is a request and its response, and what the log and the metrics are told of it.
@@ -25,6 +26,8 @@ type exchange struct {
 	request  *http.Request
 	begun    time.Time
 	endpoint string
+	path     string
+	segment  string
 	tenant   tenant.Tenant
 	asked    []string
 	status   int
@@ -66,62 +69,81 @@ func (e *exchange) serve() *failure.Error {
 
 // answer answers the request of an endpoint.
 func (e *exchange) answer(found *endpoint.Endpoint) *failure.Error {
-	address, body, err := form.Read(e.ResponseWriter, e.request, e.MaxBody)
+	mediaType := form.MediaType
+	if found.JSON {
+		mediaType = form.JSONType
+	}
+	sent, err := form.Read(e.ResponseWriter, e.request, mediaType, e.MaxBody)
 	if err != nil {
 		return err
 	}
-	e.asked = endpoint.Asked(address, body)
-	if e.tenant, err = e.Tenants.Of(e.request, address, body); err != nil {
+	e.asked = endpoint.Asked(sent)
+	named := tenant.Request{Header: e.request.Header, Address: sent.Address, Body: sent.Form, Segment: e.segment}
+	if e.tenant, err = e.Tenants.Of(named); err != nil {
 		return err
 	}
-	parameters, err := found.Parameters(address, body, e.tenant.Matcher())
+	header, err := e.Headers.Of(e.request.Header, e.tenant)
+	if err != nil {
+		return err
+	}
+	enforcement := endpoint.Enforcement{Tenant: e.tenant, RejectConflicts: e.RejectConflicts, Shared: e.Shared}
+	plan, err := found.Plan(e.request.Method, e.path, sent, enforcement)
 	if err != nil {
 		return err
 	}
 	// The request ends with the client's, so a client that leaves takes its query with it.
 	ctx, cancel := context.WithTimeout(e.request.Context(), e.Timeout)
 	defer cancel()
-	return e.pass(ctx, found, parameters)
+	if plan.Guard != nil {
+		if _, err := e.filtered(ctx, plan.Guard, header); err != nil {
+			return err
+		}
+	}
+	return e.pass(ctx, plan, header)
 }
 
-// route finds the endpoint of the path as it was written.
+// route finds the endpoint of the path as it was written, without what says the tenant.
 func (e *exchange) route() (*endpoint.Endpoint, *failure.Error) {
-	found := e.Table.Find(e.request.URL.EscapedPath())
-	if found == nil {
+	var has bool
+	e.segment, e.path, has = e.Tenants.CutPath(e.request.URL.EscapedPath())
+	found := e.Table.Find(e.path)
+	if !has || found == nil {
 		return nil, &failure.Error{Status: http.StatusNotFound, Kind: failure.NotFound, Reason: failure.Path, Message: "no such path"}
 	}
 	e.endpoint = found.Name
-	allowed := []string{http.MethodGet}
-	if found.Post {
-		allowed = append(allowed, http.MethodPost)
-	}
-	for _, method := range allowed {
+	for _, method := range found.Methods {
 		if e.request.Method == method {
 			return found, nil
 		}
 	}
-	e.Header().Set("Allow", strings.Join(allowed, ", "))
-	message := "the method is not " + strings.Join(allowed, " or ")
+	e.Header().Set("Allow", strings.Join(found.Methods, ", "))
+	message := "the method is not " + strings.Join(found.Methods, " or ")
 	return nil, &failure.Error{Status: http.StatusMethodNotAllowed, Kind: failure.BadData, Reason: failure.Method, Message: message}
 }
 
 // pass asks the server behind, and gives its answer back.
-func (e *exchange) pass(ctx context.Context, found *endpoint.Endpoint, parameters url.Values) *failure.Error {
-	question := upstream.Question{Method: e.request.Method, Path: e.request.URL.Path, Parameters: parameters}
-	if found.Filter == nil {
-		question.Client = e.request.Header
+func (e *exchange) pass(ctx context.Context, plan *endpoint.Plan, header http.Header) *failure.Error {
+	if plan.Filter != nil {
+		kept, err := e.filtered(ctx, plan, header)
+		if err != nil {
+			return err
+		}
+		e.Header().Set("Content-Type", "application/json")
+		e.WriteHeader(http.StatusOK)
+		// A client that is gone by now is not told.
+		_, _ = e.Write(kept)
+		return nil
 	}
-	response, err := e.Upstream.Ask(ctx, question)
-	if err != nil {
-		return e.unanswered(ctx, err)
+	for _, name := range []string{"Accept", "Accept-Encoding"} {
+		header[name] = e.request.Header.Values(name)
+	}
+	response, failed := e.ask(ctx, plan, header)
+	if failed != nil {
+		return failed
 	}
 	defer response.Body.Close()
-	e.Metrics.Upstream(response.StatusCode)
-	if response.StatusCode >= 400 && (found.Filter != nil || !isJSON(response)) {
-		return failedBehind(e.Header(), response)
-	}
-	if found.Filter != nil {
-		return e.filter(ctx, found, response)
+	if response.StatusCode >= 400 && !isJSON(response) {
+		return e.failedBehind(plan, response)
 	}
 	upstream.CopyHeaders(e.Header(), response)
 	e.WriteHeader(response.StatusCode)
@@ -133,25 +155,58 @@ func (e *exchange) pass(ctx context.Context, found *endpoint.Endpoint, parameter
 	return nil
 }
 
-// filter answers with what the tenant may see.
-func (e *exchange) filter(ctx context.Context, found *endpoint.Endpoint, response *http.Response) *failure.Error {
+// filtered asks the server behind, and returns what the tenant may see of its answer.
+func (e *exchange) filtered(ctx context.Context, plan *endpoint.Plan, header http.Header) ([]byte, *failure.Error) {
+	response, failed := e.ask(ctx, plan, header)
+	if failed != nil {
+		return nil, failed
+	}
+	defer response.Body.Close()
+	if response.StatusCode == http.StatusNotFound && plan.Nothing != nil && isJSON(response) {
+		return plan.Nothing, nil
+	}
+	if response.StatusCode >= 400 {
+		return nil, e.failedBehind(plan, response)
+	}
 	text, err := upstream.ReadAll(response, e.MaxAnswer)
 	switch {
 	case errors.Is(err, upstream.ErrTooLarge):
 		message := fmt.Sprintf("the answer of the server behind has more than %d bytes", e.MaxAnswer)
-		return badGateway(failure.Limit, message, err)
+		return nil, badGateway(failure.Limit, message, err)
 	case err != nil:
-		return e.unanswered(ctx, err)
+		return nil, e.unanswered(ctx, err)
 	}
-	kept, err := found.Filter(text, e.tenant.Allows)
+	kept, err := plan.Filter(text)
+	switch {
+	case errors.Is(err, filter.ErrOther):
+		return nil, missing(plan)
+	case errors.Is(err, filter.ErrSteps):
+		failed := &failure.Error{Status: http.StatusUnprocessableEntity, Kind: failure.Execution, Reason: failure.Limit, Message: "match[]: " + err.Error()}
+		return nil, failed
+	case err != nil:
+		return nil, badGateway(failure.Answer, "the answer of the server behind cannot be filtered", err)
+	}
+	return kept, nil
+}
+
+// ask asks the server of a plan.
+func (e *exchange) ask(ctx context.Context, plan *endpoint.Plan, header http.Header) (*http.Response, *failure.Error) {
+	server := e.Upstream
+	if plan.Server == endpoint.Alertmanager {
+		server = e.Alertmanager
+	}
+	question := upstream.Question{Method: plan.Method, Path: plan.Path, Parameters: plan.Parameters, JSON: plan.Body, Header: header}
+	response, err := server.Ask(ctx, question)
 	if err != nil {
-		return badGateway(failure.Answer, "the answer of the server behind cannot be filtered", err)
+		return nil, e.unanswered(ctx, err)
 	}
-	e.Header().Set("Content-Type", "application/json")
-	e.WriteHeader(http.StatusOK)
-	// A client that is gone by now is not told.
-	_, _ = e.Write(kept)
-	return nil
+	e.Metrics.Upstream(string(plan.Server), response.StatusCode)
+	return response, nil
+}
+
+// missing tells that there is no such thing for the tenant, whether others have it or not.
+func missing(plan *endpoint.Plan) *failure.Error {
+	return &failure.Error{Status: http.StatusNotFound, Kind: failure.NotFound, Reason: failure.Upstream, Message: plan.Missing}
 }
 
 // unanswered says why the server behind did not answer, or not to its end.
@@ -168,7 +223,10 @@ func (e *exchange) unanswered(ctx context.Context, err error) *failure.Error {
 }
 
 // failedBehind tells the error of a server behind that says it in another way than Prometheus, or one of an answer that is filtered.
-func failedBehind(header http.Header, response *http.Response) *failure.Error {
+func (e *exchange) failedBehind(plan *endpoint.Plan, response *http.Response) *failure.Error {
+	if response.StatusCode == http.StatusNotFound && plan.Missing != "" {
+		return missing(plan)
+	}
 	message := fmt.Sprintf("the server behind failed with status %d", response.StatusCode)
 	status, kind := response.StatusCode, failure.Unavailable
 	switch {
@@ -181,7 +239,7 @@ func failedBehind(header http.Header, response *http.Response) *failure.Error {
 		kind = failure.BadData
 	}
 	if after := response.Header.Get("Retry-After"); after != "" {
-		header.Set("Retry-After", after)
+		e.Header().Set("Retry-After", after)
 	}
 	return &failure.Error{Status: status, Kind: kind, Reason: failure.Upstream, Message: message}
 }

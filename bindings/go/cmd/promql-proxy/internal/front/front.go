@@ -3,21 +3,29 @@ package front
 
 import (
 	"net/http"
-	"promql/cmd/promql-proxy/internal/endpoint"
-	"promql/cmd/promql-proxy/internal/logs"
-	"promql/cmd/promql-proxy/internal/metrics"
-	"promql/cmd/promql-proxy/internal/tenant"
-	"promql/cmd/promql-proxy/internal/upstream"
 	"time"
+
+	"wellapron.example/promql/cmd/promql-proxy/internal/endpoint"
+	"wellapron.example/promql/cmd/promql-proxy/internal/headers"
+	"wellapron.example/promql/cmd/promql-proxy/internal/logs"
+	"wellapron.example/promql/cmd/promql-proxy/internal/metrics"
+	"wellapron.example/promql/cmd/promql-proxy/internal/tenant"
+	"wellapron.example/promql/cmd/promql-proxy/internal/upstream"
 )
 
 // Front is the handler of the clients' requests.
 type Front struct {
 	Upstream *upstream.Server
-	Tenants  tenant.Source
-	Table    *endpoint.Table
-	Metrics  *metrics.Metrics
-	Log      *logs.Logger
+	// Alertmanager is nil where there is none.
+	Alertmanager *upstream.Server
+	Tenants      tenant.Source
+	Headers      headers.Rules
+	// RejectConflicts and Shared are those of endpoint.Enforcement.
+	RejectConflicts bool
+	Shared          []string
+	Table           *endpoint.Table
+	Metrics         *metrics.Metrics
+	Log             *logs.Logger
 	// LogQueries says that the log shows queries, selectors and messages about them.
 	LogQueries bool
 	// MaxBody and MaxAnswer are the most bytes of a request's body, and of an answer that is filtered.
@@ -31,9 +39,11 @@ type Front struct {
 
 func (f *Front) ServeHTTP(w http.ResponseWriter, r *http.Request) {
 	w.Header().Set("X-Content-Type-Options", "nosniff")
-	if f.Tenants.Header != "" {
-		// A cache on the way has an answer for each tenant.
-		w.Header().Set("Vary", f.Tenants.Header)
+	// A cache on the way has an answer for each tenant, and for all else that the server behind is told of a client.
+	for _, name := range append([]string{f.Tenants.Header}, f.Headers.Passed()...) {
+		if name != "" {
+			w.Header().Add("Vary", name)
+		}
 	}
 	it := &exchange{Front: f, ResponseWriter: w, request: r, begun: time.Now(), endpoint: "none"}
 	f.Metrics.Begin()

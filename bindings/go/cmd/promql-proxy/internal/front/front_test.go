@@ -59,7 +59,7 @@ func TestQueriesAreChanged(t *testing.T) {
 func TestSelectorsAreChanged(t *testing.T) {
 	proxy := serve(t, fixed("team-a"), nil)
 	for path, methods := range map[string]string{
-		"/api/v1/series": "GET POST", "/api/v1/labels": "GET POST", "/api/v1/label/job/values": "GET", "/api/v1/label/__name__/values": "GET",
+		"/api/v1/series": "GET POST", "/api/v1/labels": "GET POST", "/api/v1/label/job/values": "GET POST", "/api/v1/label/__name__/values": "GET POST",
 		"/federate": "GET",
 	} {
 		for _, it := range []struct{ given, wanted []string }{

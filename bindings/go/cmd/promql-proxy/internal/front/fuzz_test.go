@@ -6,10 +6,11 @@ import (
 	"net/http"
 	"net/http/httptest"
 	"net/url"
-	"promql"
 	"regexp"
 	"strings"
 	"testing"
+
+	"wellapron.example/promql"
 )
 
 const matcher = `tenant="team-a"`
@@ -17,8 +18,9 @@ const matcher = `tenant="team-a"`
 var (
 	queries   = regexp.MustCompile(`^/api/v1/(query|query_range|query_exemplars)$`)
 	selectors = regexp.MustCompile(`^(/federate|/api/v1/(series|labels|label/[a-zA-Z_][a-zA-Z0-9_]*/values))$`)
-	filtered  = regexp.MustCompile(`^/api/v1/(rules|alerts)$`)
-	others    = regexp.MustCompile(`^(time|timeout|stats|lookback_delta|limit|start|end|step|type|exclude_alerts|rule_name\[\]|rule_group\[\]|file\[\])$`)
+	filtered  = regexp.MustCompile(`^/api/v1/(rules|alerts|targets/metadata)$`)
+	harmless  = regexp.MustCompile(`^/api/v1/(format_query|parse_query|status/buildinfo)$`)
+	others    = regexp.MustCompile(`^(time|timeout|stats|lookback_delta|limit|start|end|step|type|exclude_alerts|metric|match_target|rule_name\[\]|rule_group\[\]|file\[\])$`)
 	passing   = regexp.MustCompile(`^(Accept|Accept-Encoding|User-Agent|Content-Type|Content-Length)$`)
 )
 
@@ -31,7 +33,12 @@ func isEnforced(text string) bool {
 // fault says what is wrong with what the server behind was asked.
 func fault(asked question) string {
 	texts := append(asked.parameters["query"], asked.parameters["match[]"]...)
+	targets := asked.parameters["match_target"]
 	switch {
+	case harmless.MatchString(asked.path):
+		return ""
+	case len(targets) != 0 && asked.path != "/api/v1/targets/metadata" || len(targets) != 1 && asked.path == "/api/v1/targets/metadata":
+		return "there is not one selector of targets"
 	case queries.MatchString(asked.path) && (len(texts) != 1 || !asked.parameters.Has("query")):
 		return "there is not one query"
 	case selectors.MatchString(asked.path) && (len(texts) == 0 || asked.parameters.Has("query")):
@@ -41,7 +48,7 @@ func fault(asked question) string {
 	case !queries.MatchString(asked.path) && !selectors.MatchString(asked.path) && !filtered.MatchString(asked.path):
 		return "there is no such path"
 	}
-	for _, text := range texts {
+	for _, text := range append(texts, targets...) {
 		if !isEnforced(text) {
 			return "a text is not enforced"
 		}
@@ -67,7 +74,7 @@ func FuzzRequests(f *testing.F) {
 	front := frontOf(f, server.URL, fixed("team-a"), &lines{})
 	get, post := "GET", "POST"
 	form := "Content-Type: " + formType + "\r\nContent-Length: 99"
-	for _, path := range []string{"query", "query_range", "query_exemplars", "series", "labels", "label/job/values", "rules", "alerts", "x"} {
+	for _, path := range []string{"query", "query_range", "query_exemplars", "series", "labels", "label/job/values", "rules", "alerts", "metadata", "parse_query", "status/buildinfo", "x"} {
 		f.Add(get, "/api/v1/"+path+"?query=foo&match[]=bar&time=1", "X-A: b", "")
 		f.Add(get, "/api/v1/"+path, "Accept: text/plain", "")
 		f.Add(post, "/api/v1/"+path+"?start=1", form, "query=foo%20or%20bar&step=1")

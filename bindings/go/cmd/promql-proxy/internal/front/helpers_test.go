@@ -8,15 +8,16 @@ import (
 	"net/http"
 	"net/http/httptest"
 	"net/url"
-	"promql/cmd/promql-proxy/internal/endpoint"
-	"promql/cmd/promql-proxy/internal/logs"
-	"promql/cmd/promql-proxy/internal/metrics"
-	"promql/cmd/promql-proxy/internal/tenant"
-	"promql/cmd/promql-proxy/internal/upstream"
 	"strings"
 	"sync"
 	"testing"
 	"time"
+
+	"wellapron.example/promql/cmd/promql-proxy/internal/endpoint"
+	"wellapron.example/promql/cmd/promql-proxy/internal/logs"
+	"wellapron.example/promql/cmd/promql-proxy/internal/metrics"
+	"wellapron.example/promql/cmd/promql-proxy/internal/tenant"
+	"wellapron.example/promql/cmd/promql-proxy/internal/upstream"
 )
 
 const (
@@ -133,7 +134,7 @@ func before(t *testing.T, address string, tenants tenant.Source) *served {
 // frontOf returns the handler of a proxy before an address.
 func frontOf(t testing.TB, address string, tenants tenant.Source, log *lines) *Front {
 	t.Helper()
-	behind, err := upstream.New(address)
+	behind, err := upstream.New(address, upstream.Access{})
 	if err != nil {
 		t.Fatal(err)
 	}

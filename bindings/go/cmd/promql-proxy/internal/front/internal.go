@@ -3,9 +3,10 @@ package front
 import (
 	"io"
 	"net/http"
-	"promql/cmd/promql-proxy/internal/failure"
-	"promql/cmd/promql-proxy/internal/metrics"
 	"sync/atomic"
+
+	"wellapron.example/promql/cmd/promql-proxy/internal/failure"
+	"wellapron.example/promql/cmd/promql-proxy/internal/metrics"
 )
 
 // Internal is the handler for those who run the proxy: its metrics, and whether it is there and takes requests.

@@ -2,9 +2,10 @@ package front
 
 import (
 	"net/http"
-	"promql/cmd/promql-proxy/internal/tenant"
 	"strings"
 	"testing"
+
+	"wellapron.example/promql/cmd/promql-proxy/internal/tenant"
 )
 
 // A tenant's header, in each spelling that HTTP knows, is the same header; no other name is.
@@ -151,5 +152,38 @@ func TestTenantsThatAreTexts(t *testing.T) {
 	}
 	if asked := proxy.behind.all(); len(asked) != 0 {
 		t.Errorf("Prometheus was asked %v", asked)
+	}
+}
+
+// A tenant in the path is one segment of plain characters, so that a front and the proxy read the same path.
+func TestTenantsInPaths(t *testing.T) {
+	proxy := serve(t, tenant.Source{Label: "tenant", Path: "/tenants/", List: true}, nil)
+	const rest = "/api/v1/query?query=foo"
+	for path, wanted := range map[string]string{
+		"/tenants/team-a" + rest:  `foo{tenant="team-a"}`,
+		"/tenants/a_b.c~d" + rest: `foo{tenant="a_b.c~d"}`,
+		"/tenants/..." + rest:     `foo{tenant="..."}`,
+		"/tenants/a,b" + rest:     `foo{tenant=~"a|b"}`,
+		"/tenants/api" + rest:     `foo{tenant="api"}`,
+	} {
+		response, body := proxy.do(t, request{method: "GET", target: path})
+		found := proxy.behind.one(t)
+		if response.StatusCode != http.StatusOK || found.path != "/api/v1/query" || found.parameters.Get("query") != wanted {
+			t.Errorf("%s: %d %s: Prometheus was asked %v", path, response.StatusCode, body, found)
+		}
+	}
+	for path, status := range map[string]int{
+		"/tenants/." + rest: 400, "/tenants/.." + rest: 400, "/tenants/" + rest: 400, "/tenants/a%2fb" + rest: 400, "/tenants/%61" + rest: 400,
+		"/tenants/a;b" + rest: 400, "/tenants/a%00" + rest: 400, "/tenants/a," + rest: 400, "/tenants/a,a" + rest: 400, "/tenants/a|b" + rest: 400,
+		"/tenants/team-b%2f..%2fteam-a" + rest: 400, "/tenants/" + strings.Repeat("a", 1025) + rest: 400,
+		"/tenants/team-b/../team-a" + rest: 404, "/tenants/team-a/" + rest: 404, "/tenants//team-a" + rest: 404, "//tenants/team-a" + rest: 404,
+		"/tenants/team-a/x" + rest: 404, "/tenants/team-a": 404, "/tenants/": 404, "/tenants": 404, "/Tenants/team-a" + rest: 404, rest: 404,
+		"/%74enants/team-a" + rest: 404, "/tenants%2fteam-a" + rest: 404, "/tenants/team-a%2fapi/v1/query?query=foo": 404, "/": 404,
+	} {
+		response, body := proxy.raw(t, "GET "+path+" HTTP/1.1\r\nHost: x\r\n\r\n")
+		if response.StatusCode != status {
+			t.Errorf("%s: %d %s", path, response.StatusCode, body)
+		}
+		proxy.checkAsked(t, path, 0)
 	}
 }

@@ -3,13 +3,14 @@ package metrics
 
 import (
 	"io"
-	"promql"
-	"promql/cmd/promql-proxy/internal/failure"
 	"runtime"
 	"sort"
 	"strconv"
 	"sync"
 	"time"
+
+	"wellapron.example/promql"
+	"wellapron.example/promql/cmd/promql-proxy/internal/failure"
 )
 
 // The upper bounds of the histogram of durations, in seconds.
@@ -21,6 +22,12 @@ func bounds() []float64 {
 type request struct {
 	endpoint, method string
 	status           int
+}
+
+// response is what responses of the servers behind are counted by.
+type response struct {
+	server string
+	status int
 }
 
 // durations is a histogram: how many were within each bound, with those within the bounds before it.
@@ -38,7 +45,7 @@ type Metrics struct {
 	requests  map[request]uint64
 	durations map[string]*durations
 	refused   map[failure.Reason]uint64
-	upstream  map[int]uint64
+	upstream  map[response]uint64
 }
 
 // New returns metrics that have counted nothing.
@@ -48,7 +55,7 @@ func New(now time.Time) *Metrics {
 		requests:  map[request]uint64{},
 		durations: map[string]*durations{},
 		refused:   map[failure.Reason]uint64{},
-		upstream:  map[int]uint64{},
+		upstream:  map[response]uint64{},
 	}
 }
 
@@ -86,11 +93,11 @@ func (m *Metrics) Refuse(reason failure.Reason) {
 	m.refused[reason]++
 }
 
-// Upstream counts a response of the server behind.
-func (m *Metrics) Upstream(status int) {
+// Upstream counts a response of a server behind.
+func (m *Metrics) Upstream(server string, status int) {
 	m.mutex.Lock()
 	defer m.mutex.Unlock()
-	m.upstream[status]++
+	m.upstream[response{server, status}]++
 }
 
 // known returns a method that clients may name, and "other" for all that they make up.
@@ -133,12 +140,12 @@ func (m *Metrics) writeCounters(page *page) {
 	for reason, count := range m.refused {
 		refused[labels("reason", string(reason))] = count
 	}
-	for status, count := range m.upstream {
-		upstream[labels("code", strconv.Itoa(status))] = count
+	for key, count := range m.upstream {
+		upstream[labels("server", key.server, "code", strconv.Itoa(key.status))] = count
 	}
 	page.counter("promql_proxy_requests_total", "Requests that were answered.", requests)
 	page.counter("promql_proxy_requests_refused_total", "Requests that got an error of the proxy's own, by its reason.", refused)
-	page.counter("promql_proxy_upstream_responses_total", "Responses of the server behind.", upstream)
+	page.counter("promql_proxy_upstream_responses_total", "Responses of the servers behind.", upstream)
 }
 
 func (m *Metrics) writeDurations(page *page) {

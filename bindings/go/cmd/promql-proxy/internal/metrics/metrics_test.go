@@ -1,10 +1,11 @@
 package metrics
 
 import (
-	"promql/cmd/promql-proxy/internal/failure"
 	"strings"
 	"testing"
 	"time"
+
+	"wellapron.example/promql/cmd/promql-proxy/internal/failure"
 )
 
 const wantedPage = `# HELP promql_proxy_requests_total Requests that were answered.
@@ -16,9 +17,10 @@ promql_proxy_requests_total{endpoint="query",method="POST",code="400"} 1
 # TYPE promql_proxy_requests_refused_total counter
 promql_proxy_requests_refused_total{reason="path"} 1
 promql_proxy_requests_refused_total{reason="query"} 1
-# HELP promql_proxy_upstream_responses_total Responses of the server behind.
+# HELP promql_proxy_upstream_responses_total Responses of the servers behind.
 # TYPE promql_proxy_upstream_responses_total counter
-promql_proxy_upstream_responses_total{code="200"} 2
+promql_proxy_upstream_responses_total{server="alertmanager",code="200"} 1
+promql_proxy_upstream_responses_total{server="prometheus",code="200"} 1
 # HELP promql_proxy_request_duration_seconds How long a request took, until its answer was written.
 # TYPE promql_proxy_request_duration_seconds histogram
 promql_proxy_request_duration_seconds_bucket{endpoint="none",le="0.001"} 0
@@ -64,8 +66,8 @@ func TestPage(t *testing.T) {
 	counted.End("none", "X\"\n", 404, 4*time.Minute)
 	counted.Refuse(failure.Query)
 	counted.Refuse(failure.Path)
-	counted.Upstream(200)
-	counted.Upstream(200)
+	counted.Upstream("prometheus", 200)
+	counted.Upstream("alertmanager", 200)
 	var out strings.Builder
 	if written, err := counted.WriteTo(&out); err != nil || written != int64(out.Len()) {
 		t.Errorf("%d %v", written, err)

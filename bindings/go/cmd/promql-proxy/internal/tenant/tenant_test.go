@@ -2,26 +2,30 @@ package tenant
 
 import (
 	"encoding/json"
-	"promql"
 	"regexp"
 	"strings"
 	"testing"
 	"unicode/utf8"
+
+	"wellapron.example/promql"
 )
 
 func TestSourcesThatAreRefused(t *testing.T) {
 	for said, source := range map[string]Source{
-		`-label: "" is not the name of a label`:                                                           {Fixed: []string{"a"}},
-		`-label: "a-b" is not the name of a label`:                                                        {Label: "a-b", Fixed: []string{"a"}},
-		`-label: "a\n" is not the name of a label`:                                                        {Label: "a\n", Fixed: []string{"a"}},
-		`-label: "__name__" is not the name of a label`:                                                   {Label: "__name__", Fixed: []string{"a"}},
-		`the tenant comes from one of -tenant, -tenant-header and -tenant-parameter: 0 of them are given`: {Label: "a"},
-		`the tenant comes from one of -tenant, -tenant-header and -tenant-parameter: 2 of them are given`: {Label: "a", Header: "A", Parameter: "a"},
-		`-tenant: the tenant is empty`:                                                                    {Label: "a", Fixed: []string{""}},
-		`-tenant: a tenant is there twice`:                                                                {Label: "a", Fixed: []string{"b", "b"}},
-		`-tenant: the tenant is not UTF-8`:                                                                {Label: "a", Fixed: []string{"b\xff"}},
-		`-tenant: the tenant has a control character`:                                                     {Label: "a", Fixed: []string{"b\x00"}},
-		`-tenant-list is for -tenant-header and -tenant-parameter: give -tenant several times`:            {Label: "a", Fixed: []string{"b"}, List: true},
+		`-label: "" is not the name of a label`:         {Fixed: []string{"a"}},
+		`-label: "a-b" is not the name of a label`:      {Label: "a-b", Fixed: []string{"a"}},
+		`-label: "a\n" is not the name of a label`:      {Label: "a\n", Fixed: []string{"a"}},
+		`-label: "__name__" is not the name of a label`: {Label: "__name__", Fixed: []string{"a"}},
+		`the tenant comes from one of -tenant, -tenant-header, -tenant-parameter and -tenant-path: 0 of them are given`: {Label: "a"},
+		`the tenant comes from one of -tenant, -tenant-header, -tenant-parameter and -tenant-path: 2 of them are given`: {Label: "a", Header: "A", Path: "/"},
+		`-tenant: the tenant is empty`:                                      {Label: "a", Fixed: []string{""}},
+		`-tenant: a tenant is there twice`:                                  {Label: "a", Fixed: []string{"b", "b"}},
+		`-tenant: the tenant is not UTF-8`:                                  {Label: "a", Fixed: []string{"b\xff"}},
+		`-tenant: the tenant has a control character`:                       {Label: "a", Fixed: []string{"b\x00"}},
+		`-tenant-path: "/a" is no path such as /tenants/`:                   {Label: "a", Path: "/a"},
+		`-tenant-path: "/../" is no path such as /tenants/`:                 {Label: "a", Path: "/../"},
+		`-tenant-path: "//" is no path such as /tenants/`:                   {Label: "a", Path: "//"},
+		`-tenant-list is not for -tenant, which may be given several times`: {Label: "a", Fixed: []string{"b"}, List: true},
 	} {
 		if err := source.Check(); err == nil || err.Error() != said {
 			t.Errorf("%+v: %v", source, err)
@@ -29,7 +33,7 @@ func TestSourcesThatAreRefused(t *testing.T) {
 	}
 	for _, source := range []Source{
 		{Label: "tenant", Fixed: []string{"a"}}, {Label: "_a", Fixed: []string{"a", "b"}}, {Label: "a", Header: "X-Tenant", List: true},
-		{Label: "a", Parameter: "tenant"},
+		{Label: "a", Parameter: "tenant"}, {Label: "a", Path: "/"}, {Label: "a", Path: "/a/b_c-d/", List: true},
 	} {
 		if err := source.Check(); err != nil {
 			t.Errorf("%+v: %v", source, err)

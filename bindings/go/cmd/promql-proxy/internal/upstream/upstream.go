@@ -3,6 +3,7 @@
 package upstream
 
 import (
+	"bytes"
 	"context"
 	"encoding/json"
 	"errors"
@@ -11,17 +12,13 @@ import (
 	"net"
 	"net/http"
 	"net/url"
-	"promql/cmd/promql-proxy/internal/form"
 	"strings"
 	"time"
+
+	"wellapron.example/promql/cmd/promql-proxy/internal/form"
 )
 
-// The headers that pass, of a request and of a response. Every other one is dropped: it could name a tenant, a path or a user to the
-// server behind, or turn the connection into another one.
-func requestHeaders() []string {
-	return []string{"Accept", "Accept-Encoding"}
-}
-
+// The headers of a response that pass. Every other one is dropped: it could name a user, or turn the connection into another one.
 func responseHeaders() []string {
 	return []string{"Content-Type", "Content-Encoding", "Content-Length", "Cache-Control", "Retry-After", "Vary"}
 }
@@ -34,15 +31,16 @@ const (
 	userAgent   = "promql-proxy"
 )
 
-// Server is a Prometheus.
+// Server is a Prometheus or an Alertmanager.
 type Server struct {
 	address   *url.URL
+	access    Access
 	transport http.RoundTripper
 }
 
 // New returns the server at an address such as http://localhost:9090, which has a scheme and a host, and no user, parameters or fragment.
 // It makes connections of its own, and none by way of the environment's proxies.
-func New(address string) (*Server, error) {
+func New(address string, access Access) (*Server, error) {
 	parsed, err := url.Parse(address)
 	if err != nil {
 		return nil, err
@@ -53,25 +51,34 @@ func New(address string) (*Server, error) {
 	if parsed.User != nil || parsed.RawQuery != "" || parsed.Fragment != "" {
 		return nil, errors.New("an address has a scheme, a host and a path, and nothing else")
 	}
+	if err := access.check(parsed.Scheme); err != nil {
+		return nil, err
+	}
+	encrypted, err := access.tls()
+	if err != nil {
+		return nil, err
+	}
 	dialer := &net.Dialer{Timeout: dialTimeout}
 	transport := &http.Transport{
 		DialContext:            dialer.DialContext,
+		TLSClientConfig:        encrypted,
 		TLSHandshakeTimeout:    dialTimeout,
 		IdleConnTimeout:        idleTimeout,
 		MaxIdleConnsPerHost:    maxIdle,
 		MaxResponseHeaderBytes: maxHeader,
 		DisableCompression:     true,
 	}
-	return &Server{parsed, transport}, nil
+	return &Server{parsed, access, transport}, nil
 }
 
-// Question is what a Prometheus is asked.
+// Question is what a server is asked.
 type Question struct {
 	Method     string
 	Path       string
 	Parameters url.Values
-	// Client has the headers of the client, of which some pass; nil where none does.
-	Client http.Header
+	// JSON is the body of a POST, or nil where that is a form of the parameters.
+	JSON   []byte
+	Header http.Header
 }
 
 // Ask sends a question. Where the server behind responds with another protocol or another place, that is an error.
@@ -94,31 +101,40 @@ func (s *Server) Ask(ctx context.Context, question Question) (*http.Response, er
 func (s *Server) request(ctx context.Context, question Question) (*http.Request, error) {
 	target := s.address.JoinPath(question.Path)
 	var body io.Reader
-	if question.Method == http.MethodPost {
+	mediaType := form.MediaType
+	switch {
+	case question.JSON != nil:
+		body, mediaType = bytes.NewReader(question.JSON), form.JSONType
+	case question.Method == http.MethodPost:
 		body = strings.NewReader(question.Parameters.Encode())
-	} else {
+	default:
 		target.RawQuery = question.Parameters.Encode()
 	}
 	request, err := http.NewRequestWithContext(ctx, question.Method, target.String(), body)
 	if err != nil {
 		return nil, err
 	}
-	copyHeaders(request.Header, question.Client, requestHeaders())
+	for name, values := range question.Header {
+		request.Header[name] = values
+	}
+	authorization, err := s.access.authorization()
+	if err != nil {
+		return nil, err
+	}
+	if authorization != "" {
+		request.Header.Set("Authorization", authorization)
+	}
 	request.Header.Set("User-Agent", userAgent)
 	if body != nil {
-		request.Header.Set("Content-Type", form.MediaType)
+		request.Header.Set("Content-Type", mediaType)
 	}
 	return request, nil
 }
 
 // CopyHeaders adds the headers of a response that pass.
 func CopyHeaders(to http.Header, response *http.Response) {
-	copyHeaders(to, response.Header, responseHeaders())
-}
-
-func copyHeaders(to, from http.Header, names []string) {
-	for _, name := range names {
-		if values := from.Values(name); len(values) != 0 {
+	for _, name := range responseHeaders() {
+		if values := response.Header.Values(name); len(values) != 0 {
 			name = http.CanonicalHeaderKey(name)
 			to[name] = append(to[name], values...)
 		}
