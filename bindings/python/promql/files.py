@@ -19,7 +19,8 @@ from .line_index import LineIndex
 from .visible import visible
 
 STDIN = "-"
-BREAK = r"(?:\r\n|\r|\n)"
+# (a line feed after a carriage return begins no other break, so that a run of them is read in one way alone)
+BREAK = r"(?:\r\n|\r(?!\n)|\n)"
 BLANKS = " \t\r\n"
 # A longer line is shown in part.
 _LONGEST_LINE = 160

@@ -88,18 +88,18 @@ class Variables:
 
     def checked(self, text: PlacedText) -> Tuple[PlacedText, List[Span]]:
         """The query as it is checked, and where the variables are in that."""
-        made, at = PlacedText(), 0
+        made, original, at = PlacedText(), text.text, 0
         spans: List[Span] = []
-        for place in places_of(text.text):
+        for place in places_of(original):
             in_string = place.kinds == _TEXT
-            for start, end in [found.span() for found in _variables(text.text, place)] if in_string else [place[:2]]:
-                spelling = text.text[start:end]
-                use = (spelling, "word") if in_string else self._use(text.text, place)
+            for start, end in [found.span() for found in _variables(original, place)] if in_string else [place[:2]]:
+                spelling = original[start:end]
+                use = (spelling, "word") if in_string else self._use(original, place)
                 made.copy(text, at, start)
-                begin, at = len(made.text), end
+                begin, at = len(made.offsets), end
                 made.put_all(self._texts[use], text.offsets[start])
-                spans.append(Span(begin, len(made.text), place.is_sure, use[1] in _FUNCTIONS))
-        made.copy(text, at, len(text.text))
+                spans.append(Span(begin, len(made.offsets), place.is_sure, use[1] in _FUNCTIONS))
+        made.copy(text, at, len(original))
         return made, spans
 
     def put_back(self, text: str) -> str:

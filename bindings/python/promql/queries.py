@@ -24,21 +24,26 @@ class PlacedText:
     """A text that is put together of parts of a file, with the place of each character there."""
 
     def __init__(self) -> None:
-        self.text = ""
+        self._parts: List[str] = []
         self.offsets: List[int] = []
+
+    @property
+    def text(self) -> str:
+        self._parts = ["".join(self._parts)]
+        return self._parts[0]
 
     def put(self, text: str, offset: int) -> None:
         """Adds a text which the file has at this place, character by character."""
-        self.text += text
+        self._parts.append(text)
         self.offsets.extend(range(offset, offset + len(text)))
 
     def put_all(self, text: str, offset: int) -> None:
         """Adds a text whose characters all have the same place."""
-        self.text += text
+        self._parts.append(text)
         self.offsets.extend([offset] * len(text))
 
     def copy(self, other: PlacedText, start: int, end: int) -> None:
-        self.text += other.text[start:end]
+        self._parts.append(other.text[start:end])
         self.offsets.extend(other.offsets[start:end])
 
 

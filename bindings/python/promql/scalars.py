@@ -4,7 +4,7 @@ from __future__ import annotations
 
 import re
 import sys
-from typing import Iterator, List, Match, NamedTuple, Optional, Tuple
+from typing import Iterable, List, Match, NamedTuple, Optional, Tuple
 
 from .files import BLANKS, BREAK
 from .queries import Edit, PlacedText
@@ -45,10 +45,8 @@ class Scalar(NamedTuple):
 
     def offsets(self, value: str) -> Optional[List[int]]:
         """The place of each character of this value, and of its end; or nothing, where it is read as another value here."""
-        for reading in _blocks(self) if self.is_block() else [_flow(self)]:
-            if reading.text == value:
-                return [*reading.offsets, self._content_end()]
-        return None
+        reading = _block_of(self, value) if self.is_block() else _flow(self)
+        return [*reading.offsets, self._content_end()] if reading and reading.text == value else None
 
     def room(self, width: int) -> int:
         one_line = self.in_flow or self.has_comment_below()
@@ -154,16 +152,20 @@ def _unescape(text: PlacedText, source: str, at: int, end: int) -> int:
     return escape.end()
 
 
-def _blocks(scalar: Scalar) -> Iterator[PlacedText]:
-    """What a block says, by each indentation that its lines could have: the one that it has depends on what is around it."""
+def _block_of(scalar: Scalar, value: str) -> Optional[PlacedText]:
+    """What a block says whose lines have the indentation with which its first line is that of the value; nothing where there is none."""
     header = _HEADER.match(scalar.source, scalar.start)
     first = _LINE.match(scalar.source, scalar.start)
     assert header and first
     lines = [found.span(1) for found in _LINE.finditer(scalar.source, first.end(), scalar.end) if found[0]]
-    texts = [scalar.source[slice(*span)] for span in lines]
-    depth = min((len(text) - len(text.lstrip(" ")) for text in texts if text.strip(" ")), default=1)
-    for indent in range(depth, 0, -1):
-        yield _block(scalar, lines, indent, _chomping(header))
+    written = _first_blanks(scalar.source[slice(*span)] for span in lines)
+    indent = written - _first_blanks(value.split("\n")) if written else 1
+    return _block(scalar, lines, indent, _chomping(header)) if indent > 0 else None
+
+
+def _first_blanks(lines: Iterable[str]) -> int:
+    """How many blanks the first line begins with that has more than these; 0 where there is none."""
+    return next((len(line) - len(line.lstrip(" ")) for line in lines if line.strip(" ")), 0)
 
 
 def _chomping(header: Match[str]) -> str:

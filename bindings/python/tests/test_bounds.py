@@ -233,6 +233,32 @@ class Findings(unittest.TestCase):
         self.assertTrue(queries[0] and queries[-1] is None and fixes_found[-1]["edits"])
 
 
+class Scalars(unittest.TestCase):
+    def query(self, text):
+        begin = time.process_time()
+        (query,) = RuleFile(Source("a", RULE + text, "")).queries
+        self.assertLess(time.process_time() - begin, SECONDS)
+        return query
+
+    def test_empty_lines(self):
+        """Empty lines after a block, whose ends have two characters each."""
+        query = self.query("  - record: a\r\n    expr: |\r\n      up\r\n" + "\r\n" * 5_000 + "    labels: {}\r\n")
+        self.assertFalse(query.spelling.has_comment_below())
+        query = self.query("  - record: a\r\n    expr: |\r\n        up\r\n" + "\r\n" * 5_000 + "      # b\r\n    labels: {}\r\n")
+        self.assertTrue(query.spelling.has_comment_below())
+
+    def test_blanks(self):
+        """Lines of a block that are far in, of which the first blanks are its indentation."""
+        query = self.query("  - record: a\n    expr: |1\n" + (" " * 2_000 + "up\n") * 300)
+        self.assertEqual((query.text[:1_997], query.offsets[0]), (" " * 1_995 + "up", len(RULE) + 32))
+
+    def test_parts(self):
+        """A text of many parts."""
+        for text in ("'" + "''" * 300_000 + "'", '"' + "\\u0061" * 150_000 + '"', "'" + "a\n\n" * 150_000 + "'"):
+            query = self.query(f"  - record: a\n    expr: {text}\n")
+            self.assertEqual((query.offsets[0], len(query.offsets)), (len(RULE) + 25, len(query.value) + 1))
+
+
 class Lines(unittest.TestCase):
     def test_memory(self):
         """Eight million lines are told apart with little memory and time."""

@@ -27,28 +27,31 @@ class Labels(NamedTuple):
     def may_have(self, label: str) -> bool:
         return label in self.only if self.only is not None else label not in self.without
 
+    def lacked(self, labels: FrozenSet[str]) -> FrozenSet[str]:
+        """Those of some labels that there are not."""
+        return labels - self.only if self.only is not None else labels & self.without
+
     def kept(self, labels: FrozenSet[str]) -> Labels:
         """Only these."""
-        return Labels(frozenset(filter(self.may_have, labels)), _NONE, self.sure & labels)
+        return Labels(labels - self.lacked(labels), _NONE, self.sure & labels)
 
     def dropped(self, labels: FrozenSet[str]) -> Labels:
         if self.only is not None:
             return Labels(self.only - labels, _NONE, self.sure - labels)
         return Labels(None, self.without | labels, self.sure - labels)
 
-    def added(self, label: str) -> Labels:
-        """With one more, which a series may have or not."""
-        one = frozenset((label,))
-        only = self.only | one if self.only is not None else None
-        return Labels(only, self.without - one, self.sure - one)
+    def added(self, *labels: str) -> Labels:
+        """With more, which a series may have or not."""
+        only = self.only.union(labels) if self.only is not None else None
+        return Labels(only, self.without.difference(labels), self.sure.difference(labels))
 
     def both(self, other: Labels) -> Labels:
         """Those of series that have the same labels in both."""
         sure = self.sure | other.sure if self.sure and other.sure else self.sure or other.sure
         if self.only is not None:
-            return Labels(frozenset(filter(other.may_have, self.only)), _NONE, sure)
+            return Labels(self.only - other.lacked(self.only), _NONE, sure)
         if other.only is not None:
-            return Labels(frozenset(filter(self.may_have, other.only)), _NONE, sure)
+            return Labels(other.only - self.lacked(other.only), _NONE, sure)
         return Labels(None, self.without | other.without, sure)
 
     def either(self, other: Labels) -> Labels:
@@ -133,9 +136,8 @@ class LabelFlow:
         if isinstance(matching["card"], dict):
             ((card, included),) = matching["card"].items()
             many = left if card == "many-to-one" else right
-            for label in included:
-                many = many.added(label)
-            return many.either(right if many is left else left) if fills(node) else many
+            made = many.added(*included)
+            return made.either(right if many is left else left) if fills(node) else made
         joined = left.either(right) if fills(node) else left.both(right)
         return joined.kept(labels) if matching["on"] else joined.dropped(labels)
 

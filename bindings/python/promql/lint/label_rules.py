@@ -3,21 +3,13 @@
 from __future__ import annotations
 
 from collections import Counter
-from typing import FrozenSet, Iterator, Tuple
+from typing import FrozenSet, Iterator
 
 from .findings import Remark, Severity, Tree
 from .label_flow import Labels
 from .subject import Subject
 from .table import rule
 from .trees import NAME, fills, inner, matching_of
-
-
-def _matched(subject: Subject) -> Iterator[Tuple[Tree, Labels, Labels]]:
-    """Each operator between two vectors, with the labels of both."""
-    for node in subject.of_type("binaryExpr"):
-        labels = subject.labels
-        if not labels.is_scalar(node["lhs"]) and not labels.is_scalar(node["rhs"]):
-            yield node, labels.of(node["lhs"]), labels.of(node["rhs"])
 
 
 @rule("P401", "lost-label", Severity.WARNING)
@@ -36,7 +28,7 @@ def lost_label(subject: Subject) -> Iterator[Remark]:
 @rule("P402", "unmatched-label", Severity.WARNING)
 def unmatched_label(subject: Subject) -> Iterator[Remark]:
     """A label after `on` that one side cannot have, or one after `ignoring` that neither side can have."""
-    for node, left, right in _matched(subject):
+    for node, left, right in subject.matched:
         labels, is_on = matching_of(node)["labels"], matching_of(node)["on"]
         messages = {label: _why_unmatched(label, is_on, left, right) for label in labels if subject.is_written(label)}
         for label, span in zip(labels, subject.place(node).labels) if any(messages.values()) else ():
@@ -56,7 +48,7 @@ def _why_unmatched(label: str, is_on: bool, left: Labels, right: Labels) -> str:
 @rule("P403", "grouped-label", Severity.WARNING)
 def grouped_label(subject: Subject) -> Iterator[Remark]:
     """A label after `group_left` or `group_right` that the one side cannot have."""
-    for node, left, right in _matched(subject):
+    for node, left, right in subject.matched:
         card = matching_of(node)["card"]
         if not isinstance(card, dict):
             continue
@@ -72,11 +64,11 @@ def grouped_label(subject: Subject) -> Iterator[Remark]:
 @rule("P404", "never-matched", Severity.ERROR)
 def never_matched(subject: Subject) -> Iterator[Remark]:
     """Sides of an operator of which one surely has a label that the other cannot have."""
-    for node, left, right in _matched(subject):
+    for node, left, right in subject.matched:
         if node["op"] == "or" or fills(node):
             continue
         for side, has, other in (("left", left, right), ("right", right, left)):
-            lacking = [it for it in sorted(_compared(node, has.sure)) if not other.may_have(it)]
+            lacking = sorted(_compared(node, other.lacked(has.sure)))
             if lacking and all(map(subject.is_written, lacking)):
                 message = f"no series match: those of the {side} side have the label `{lacking[0]}`, and those of the other have not"
                 yield Remark(subject.head(node), message)

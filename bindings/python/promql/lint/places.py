@@ -34,18 +34,14 @@ class NodePlace(NamedTuple):
     bool: Optional[Span] = None
 
 
-def places_of(query: str, nodes: Sequence[Tree]) -> Dict[int, NodePlace]:
-    """The place of each node of a query, by its `id`. The nodes are all of its tree, each before those below it."""
-    reader = _Reader(code_of(query))
-    read = zip(nodes, promql.places(query), promql.parts(query))
-    return {id(node): reader.place(node, place, parts) for node, place, parts in read}
+class Places:
+    """Where the nodes of a query are, which are all of its tree, each before those below it."""
 
-
-class _Reader:
-    """Finds the tokens of nodes."""
-
-    def __init__(self, tokens: List[Token]) -> None:
-        self._tokens = tokens
+    def __init__(self, query: str, nodes: Sequence[Tree]) -> None:
+        read = zip(nodes, promql.places(query), promql.parts(query))
+        self._read = {id(node): (place, parts) for node, place, parts in read}
+        self._found: Dict[int, NodePlace] = {}
+        self._tokens = tokens = code_of(query)
         self._numbers: Dict[int, int] = {}
         # The number of the first token of an operand, by where it begins: one that is no plus.
         self._firsts: Dict[int, int] = {}
@@ -55,7 +51,13 @@ class _Reader:
             self._numbers[tokens[number].start] = number
             self._firsts[tokens[number].start] = first
 
-    def place(self, node: Tree, place: Tuple[int, int], parts: Sequence[promql.Part]) -> NodePlace:
+    def of(self, node: Tree) -> NodePlace:
+        """The place of a node."""
+        if id(node) not in self._found:
+            self._found[id(node)] = self._place(node, *self._read[id(node)])
+        return self._found[id(node)]
+
+    def _place(self, node: Tree, place: Tuple[int, int], parts: Sequence[promql.Part]) -> NodePlace:
         spans: Dict[str, List[Span]] = {}
         for kind, *span in parts:
             spans.setdefault(kind, []).append(Span(*span))

@@ -8,8 +8,8 @@ from typing import Callable, Dict, FrozenSet, Iterator, List, Mapping, NamedTupl
 
 from ..labels import children_of, nodes_of
 from .findings import Span, Tree
-from .label_flow import LabelFlow
-from .places import MatcherPlace, NodePlace, places_of
+from .label_flow import LabelFlow, Labels
+from .places import MatcherPlace, NodePlace, Places
 from .trees import NAME
 
 # Of a text in a message, and what is looked at for that.
@@ -81,13 +81,23 @@ class Subject:
         return Span(0, len(self.text))
 
     @cached_property
-    def _places(self) -> Dict[int, NodePlace]:
-        return places_of(self.text, self.nodes)
+    def _places(self) -> Places:
+        return Places(self.text, self.nodes)
 
     @cached_property
     def labels(self) -> LabelFlow:
         """Which labels the series of each node may have."""
         return LabelFlow()
+
+    @cached_property
+    def matched(self) -> List[Tuple[Tree, Labels, Labels]]:
+        """Each operator between two vectors, with the labels of both."""
+        found = []
+        for node in self.of_type("binaryExpr"):
+            left, right = node["lhs"], node["rhs"]
+            if not self.labels.is_scalar(left) and not self.labels.is_scalar(right):
+                found.append((node, self.labels.of(left), self.labels.of(right)))
+        return found
 
     @cached_property
     def _parents(self) -> Dict[int, Tree]:
@@ -114,7 +124,7 @@ class Subject:
         return [*self.of_type("vectorSelector"), *self.of_type("matrixSelector")]
 
     def place(self, node: Tree) -> NodePlace:
-        return self._places[id(node)]
+        return self._places.of(node)
 
     def span(self, node: Tree) -> Span:
         """Where a node is."""
