@@ -12,11 +12,12 @@ default_settings =
 
 -- options without a value
 abbrev pub is_flag : Text → Bool
-is_flag word = bytes_eq word (codes "--check") || bytes_eq word (codes "--keep-spelling")
+is_flag word = bytes_eq word (codes "--check") || bytes_eq word (codes "--keep-spelling") || bytes_eq word (codes "--sort-matchers")
 
 abbrev pub with_flag : FormatSettings → Text → FormatSettings
 with_flag s word =
     if bytes_eq word (codes "--check") then record s { is_check = true }
+    else if bytes_eq word (codes "--sort-matchers") then record s { options = record s.options { sort_matchers = true } }
     else record s { options = record s.options { keep_spelling = true } }
 
 -- options with a number

@@ -12,7 +12,7 @@ is_option word = false
 -- an option without a value
 abbrev pub is_flag : Text → Bool
 is_flag word =
-    list_any (bytes_eq word) (codes "--check" ∷ codes "--keep-spelling" ∷ codes "--help" ∷ codes "--version" ∷ codes "-h" ∷ [])
+    list_any (bytes_eq word) (codes "--check" ∷ codes "--keep-spelling" ∷ codes "--sort-matchers" ∷ codes "--help" ∷ codes "--version" ∷ codes "-h" ∷ [])
 
 abbrev pub is_long : Text → Bool
 is_long (first ∷ second ∷ bytes) = first == 45 && second == 45

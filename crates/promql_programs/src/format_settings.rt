@@ -24,7 +24,7 @@ pub struct FormatSettings {
 fn is_flag(word: &str) -> bool
     ensures { result ≡ spec.is_flag word.now }
 {
-    matches!(word, "--check" | "--keep-spelling")
+    matches!(word, "--check" | "--keep-spelling" | "--sort-matchers")
 }
 
 /// The settings as an option without a number changes them.
@@ -32,10 +32,10 @@ fn with_flag(settings: FormatSettings, word: &str) -> FormatSettings
     ensures { result ≡ spec.with_flag settings word.now }
 {
     let mut changed = settings;
-    if word == "--check" {
-        changed.is_check = true;
-    } else {
-        changed.options.keep_spelling = true;
+    match word {
+        "--check" => changed.is_check = true,
+        "--sort-matchers" => changed.options.sort_matchers = true,
+        _ => changed.options.keep_spelling = true,
     }
     changed
 }

@@ -22,10 +22,11 @@ const MODES: [&str; 3] = ["pretty", "line", "json"];
 const CHECK_OPTIONS: [&str; 4] = ["--color", "--target", "--max-len", "--max-patterns"];
 
 /// The options of formatting.
-const FORMAT_OPTIONS: [&str; 8] = [
+const FORMAT_OPTIONS: [&str; 9] = [
     "--width",
     "--indent",
     "--keep-spelling",
+    "--sort-matchers",
     "--check",
     "--target",
     "--max-len",

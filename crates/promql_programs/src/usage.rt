@@ -71,19 +71,20 @@ arguments, 141 nobody reads what is written.
 
 /// How a query is formatted, and the first line of the help of that.
 pub const FORMAT_USAGE: &str =
-    "usage: promql format [FILE..] [--width N] [--indent N] [--keep-spelling] [--check] [--target NAME] [--max-len N] [--max-patterns N] [--max-output N]\n";
+    "usage: promql format [FILE..] [--width N] [--indent N] [--keep-spelling] [--sort-matchers] [--check] [--target NAME] [--max-len N] [--max-patterns N] [--max-output N]\n";
 
 /// The help of formatting.
 pub const FORMAT_HELP: &str =
-    "usage: promql format [FILE..] [--width N] [--indent N] [--keep-spelling] [--check] [--target NAME] [--max-len N] [--max-patterns N] [--max-output N]
+    "usage: promql format [FILE..] [--width N] [--indent N] [--keep-spelling] [--sort-matchers] [--check] [--target NAME] [--max-len N] [--max-patterns N] [--max-output N]
        promql format -h | --help | --version
 
 Reads a PromQL query from each FILE, or from standard input, and writes it to
 standard output, laid out in lines of at most --width characters (100) with
-indentations of --indent spaces (2). Comments stay. With --keep-spelling numbers,
-durations, strings, keywords and the order of what is written stay, too. With
---check nothing is written, and the status says whether the query is formatted; its
-line ends may be those of Windows. A query of more than --max-len bytes (32768), or
+indentations of --indent spaces (2). Comments and the order of matchers stay. With
+--keep-spelling numbers, durations, strings, keywords and the order of what else is
+written stay, too; with --sort-matchers matchers are sorted. With --check nothing is
+written, and the status says whether the query is formatted; its line ends may be
+those of Windows. A query of more than --max-len bytes (32768), or
 with patterns that are together larger than --max-patterns (16000), is rejected
 before it is parsed. A layout of more than --max-output bytes (4194304) is an error.
 What Prometheus reads otherwise, such as an escape of a byte past ASCII, is an

@@ -141,6 +141,6 @@ pub fn is_flag(word: &str) -> bool
 {
     matches!(
         word,
-        "--check" | "--keep-spelling" | "--help" | "--version" | "-h"
+        "--check" | "--keep-spelling" | "--sort-matchers" | "--help" | "--version" | "-h"
     )
 }
