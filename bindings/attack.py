@@ -398,7 +398,7 @@ def labels(count):
     return RULE + "".join(rules)
 
 
-# What is in a file, and the status of `check --queries` and what it says; 4 is also that of `format`.
+# What is in a file, and the status of `check --queries` and what it says; 4 and 14 are also those of `format`.
 FILES = {
     "merges.yml": (merges(60), 0, "1 rule, no errors"),
     "aliases.yml": (aliases(5000, 5000), 2, "its aliases make more than 1,000,000 rules of it"),
@@ -411,7 +411,7 @@ FILES = {
     "digits.json": ('{"panels": [{"id": ' + "1" * 5000 + ', "targets": [{"expr": "up==0"}]}]}', 0, "1 query, no errors"),
     "nested.json": ("[" * 100_000, 2, "nested too deeply"),
     "variables.json": ('{"targets": [{"expr": "' + "$a + " * 100_000 + '"}]}', 0, "1 skipped, no errors"),
-    "braces.json": ('{"targets": [{"expr": "' + "${" * 100_000 + '"}]}', 4, "1 query, 1 error"),
+    "braces.json": ('{"targets": [{"expr": "' + "${" * 100_000 + '"}]}', 14, "1 query, 1 error"),
 }
 # The same of `check`.
 CHECKED_FILES = {
@@ -443,7 +443,7 @@ def attack_files():
             path = Path(folder, name)
             check_file(path, "--queries", *FILES[name])
             ran = run([sys.executable, "-m", "promql", "format", "--write", path], seconds=20)
-            is_so = (ran.status, ran.out) == ({0: 0, 4: 4}.get(status, 2), "") and (not status or path.read_text(encoding="utf-8") == text)
+            is_so = (ran.status, ran.out) == (status if status in (0, 4, 14) else 2, "") and (not status or path.read_text(encoding="utf-8") == text)
             check(f"format --write {name}", is_so, (ran.status, ran.out, ran.err[-300:]))
         for name, file in CHECKED_FILES.items() if has_yaml else ():
             check_file(Path(folder, name), "--jobs=1", *file)

@@ -34,8 +34,9 @@ class Parser(argparse.ArgumentParser):
         found, rest = super().parse_known_args(args, namespace)
         if rest:
             word = rest[0].partition("=")[0]
-            known = _nearest(word, self._option_string_actions)
-            self.error(f"no option is called {word}{known}" if word.startswith("-") else f"too many arguments: {rest[0]!r}")
+            is_option = word.startswith("-") and word != "--"
+            hint = _nearest(word, self._option_string_actions)
+            self.error(f"no option is called {word}{hint}" if is_option else f"too many arguments: {rest[-1]!r}")
         return found, rest
 
     def error(self, message: str) -> NoReturn:

@@ -49,10 +49,10 @@ class Queries(Folder):
     def board_of(self, query):
         return self.board(json.dumps(query))
 
-    def formatted(self, query):
+    def formatted(self, query, style="people"):
         """The query as `format` writes it, where it does and says nothing."""
         path = self.board_of(query)
-        ran = run("format", path)
+        ran = run("format", "--style", style, path)
         self.assertEqual((ran.status, ran.err), (0, ""), query)
         return json.loads(ran.out)["panels"][0]["targets"][0]["expr"]
 
@@ -69,22 +69,24 @@ class Queries(Folder):
             with self.subTest(query):
                 path = self.board_of(query)
                 self.assertEqual(run("check", path), (0, f"{path}: 1 query, no errors\n", ""))
-                new = self.formatted(query)
-                self.assertEqual(spellings(new), spellings(query))
-                self.assertEqual(promql.canonical(with_values(new)), promql.canonical(with_values(query)))
-                self.assertEqual(self.formatted(new), new)
+                for style in ("people", "pretty"):
+                    new = self.formatted(query, style)
+                    self.assertEqual(spellings(new), spellings(query))
+                    self.assertEqual(promql.canonical(with_values(new)), promql.canonical(with_values(query)))
+                    self.assertEqual(self.formatted(new, style), new)
 
     def test_without_white_space(self):
         """Where nothing but white space changes in a query with values, it is so with the variables."""
         for query in QUERIES:
             bare, new = ("".join(text.split()) for text in (with_values(query), promql.pretty(with_values(query))))
             if bare == new:
-                self.assertEqual("".join(self.formatted(query).split()), "".join(query.split()))
+                for style in ("people", "pretty"):
+                    self.assertEqual("".join(self.formatted(query, style).split()), "".join(query.split()))
 
     def test_laid_out(self):
         for query, wanted in LAID_OUT.items():
             self.assertIn(query, QUERIES)
-            self.assertEqual(self.formatted(query), wanted)
+            self.assertEqual(self.formatted(query, "pretty"), wanted)
 
     def test_left(self):
         for query in LEFT:

@@ -94,9 +94,11 @@ class EachCommand(unittest.TestCase):
         self.assertLess(time.monotonic() - begin, 10)
 
     def test_end_of_options(self):
-        for words in OTHERS:
-            ran = run(*words, "--", "--help")
+        for words in (("lsp",), ("serve",), ("completion", "bash")):
+            ran = run(*words, "--", "more")
             self.assertEqual((ran.status, ran.out), (64, ""), words)
+            self.assertTrue(ran.err.endswith(": too many arguments: 'more'\n"), ran.err)
+        self.assertEqual(run("completion", "--", "bash").status, 0)
 
 
 class OverFiles(Folder):
