@@ -142,7 +142,7 @@ func (e *exchange) pass(ctx context.Context, plan *endpoint.Plan, header http.He
 		return failed
 	}
 	defer response.Body.Close()
-	if response.StatusCode >= 400 && !isJSON(response) {
+	if response.StatusCode >= 400 && (!isJSON(response) || asksWho(response)) {
 		return e.failedBehind(plan, response)
 	}
 	upstream.CopyHeaders(e.Header(), response)
@@ -230,8 +230,7 @@ func (e *exchange) failedBehind(plan *endpoint.Plan, response *http.Response) *f
 	message := fmt.Sprintf("the server behind failed with status %d", response.StatusCode)
 	status, kind := response.StatusCode, failure.Unavailable
 	switch {
-	case status == http.StatusUnauthorized || status == http.StatusProxyAuthRequired:
-		// Those ask the client to say who it is, and the server behind is not told that.
+	case asksWho(response):
 		status = http.StatusBadGateway
 	case status == http.StatusNotFound:
 		kind = failure.NotFound
@@ -246,6 +245,11 @@ func (e *exchange) failedBehind(plan *endpoint.Plan, response *http.Response) *f
 
 func badGateway(reason failure.Reason, message string, cause error) *failure.Error {
 	return &failure.Error{Status: http.StatusBadGateway, Kind: failure.Unavailable, Reason: reason, Message: message, Cause: cause}
+}
+
+// asksWho says whether a server behind asks who the proxy is. A client would take that for a question to itself.
+func asksWho(response *http.Response) bool {
+	return response.StatusCode == http.StatusUnauthorized || response.StatusCode == http.StatusProxyAuthRequired
 }
 
 func isJSON(response *http.Response) bool {
