@@ -91,6 +91,11 @@ func (e *exchange) answer(found *endpoint.Endpoint) *failure.Error {
 	if err != nil {
 		return err
 	}
+	return e.carryOut(plan, header)
+}
+
+// carryOut asks what a plan asks, in the time that there is for both of its questions.
+func (e *exchange) carryOut(plan *endpoint.Plan, header http.Header) *failure.Error {
 	// The request ends with the client's, so a client that leaves takes its query with it.
 	ctx, cancel := context.WithTimeout(e.request.Context(), e.Timeout)
 	defer cancel()
