@@ -14,48 +14,29 @@ Prints what fails, and last 'N passed, M failed'. bindings/test.sh --proxy calls
 """
 
 import contextlib
-import gzip
-import http.client
 import json
 import os
 import random
 import re
 import shutil
-import signal
-import socket
 import subprocess
 import sys
 import tempfile
 import threading
 import time
-import urllib.parse
-from collections.abc import Iterator, Mapping, Sequence
-from email.message import Message
+from collections.abc import Iterator, Sequence
 from http.server import BaseHTTPRequestHandler, ThreadingHTTPServer
 from pathlib import Path
 from typing import Any
 
 import promql
 import proxy_alertmanager
+from proxy_client import HIDDEN, Answer, Proxy, check, checks, get, get_text, post, request_text, send
 from proxy_requests import CONFLICTS, HONEST_EXEMPLARS, HONEST_PATHS, HONEST_QUERIES, MATCH_PATHS, NOW, SELECTORS_OF_NOW, SELECTORS_OF_SERIES
 from proxy_requests import SHARED, TENANT_PATHS, hostile_requests
+from proxy_servers import known_proxies, metadata_of_targets
 
-ROOT = Path(__file__).resolve().parent.parent
-sys.path[:0] = [str(ROOT / "bin"), str(ROOT / "bench" / "meaning")]
-from checks import Checks  # noqa: E402
-from compare import Maker, Prometheus, Series, rounded, samples_of  # type: ignore[import]  # noqa: E402
-
-# What only others have in their data. A request may name it, as a client may guess a name; no answer does.
-HIDDEN = re.compile(rb"hidden|Hidden|31337")
-SECONDS = 20
-Parameters = Mapping[str, Any] | Sequence[tuple[str, str]]
-
-checks = Checks()
-
-
-def check(name: str, is_so: bool, found: object = "") -> None:
-    """Counts one thing that is checked, and says what was found where it fails."""
-    checks.check(is_so, f"{name}: {str(found)[:1800]}")
+from compare import Maker, Prometheus, Series, samples_of  # type: ignore[import]
 
 
 # ---- the data
@@ -149,115 +130,6 @@ def settings(folder: Path, port: int, path: str, rules: str) -> str:
         f"global: {{evaluation_interval: 1s}}\nrule_files: ['{rule_file}']\nscrape_configs:\n- job_name: stub\n  honor_labels: true\n"
         f"  scrape_interval: 1s\n  metrics_path: {path}\n  static_configs:\n  - targets: ['127.0.0.1:{port}']\n    labels: {{tenant: scrape}}\n"
     )
-
-
-# ---- requests
-
-
-class Answer:
-    """The answer to a request: its status, its headers, and its text, which is not compressed any more."""
-
-    def __init__(self, status: int, headers: Message, body: bytes) -> None:
-        self.status, self.headers = status, headers
-        self.body = gzip.decompress(body) if headers.get("Content-Encoding") == "gzip" else body
-
-    def normal(self) -> tuple[int, object]:
-        """What has to be the same before two servers: no times of now, and lists in an order of their own."""
-        try:
-            value = json.loads(self.body)
-        except ValueError:
-            lines = re.sub(rb" \d{13}$|1\.\d+e\+09", b"", self.body, flags=re.M).splitlines()
-            return self.status, sorted(lines)
-        return self.status, normal(rounded(value))
-
-
-def normal(value: Any) -> object:
-    """A value of JSON without the times of now, each list in an order of its own."""
-    if isinstance(value, dict):
-        left_out = {"evaluationTime", "lastEvaluation", "activeAt", "file", "timings"}
-        if value.get("errorType") == "execution":
-            # (the message names one of the series that do not match, any of them)
-            left_out.add("error")
-        return {key: normal(it) for key, it in value.items() if key not in left_out}
-    if isinstance(value, list):
-        if len(value) == 2 and isinstance(value[0], float | int) and value[0] > NOW + 10**7:
-            return ["now", value[1]]
-        return sorted((normal(it) for it in value), key=lambda it: json.dumps(it, sort_keys=True))
-    if isinstance(value, float | int) and value > NOW + 10**7:
-        return "now"
-    return value
-
-
-def send(port: int, text: bytes) -> Answer:
-    """Sends bytes on a connection of their own, and returns the first answer, or one with status 0."""
-    with socket.create_connection(("127.0.0.1", port), timeout=SECONDS) as connection:
-        with contextlib.suppress(OSError):
-            connection.sendall(text)
-        response = http.client.HTTPResponse(connection, method=text.split(b" ", 1)[0].decode())
-        try:
-            response.begin()
-            body = response.read()
-        except (http.client.HTTPException, OSError):
-            return Answer(0, Message(), b"")
-        return Answer(response.status, response.headers, body)
-
-
-def request_text(method: str, target: str, headers: Sequence[str] = (), body: bytes = b"") -> bytes:
-    """The bytes of a request that is well formed."""
-    lines = [f"{method} {target} HTTP/1.1", "Host: x", "Connection: close", *headers]
-    if body:
-        lines.append(f"Content-Length: {len(body)}")
-    return "\r\n".join([*lines, "", ""]).encode("utf-8", "surrogateescape") + body
-
-
-def get_text(path: str, parameters: Parameters, *headers: str) -> bytes:
-    """The bytes of a GET."""
-    return request_text("GET", f"{path}?{urllib.parse.urlencode(parameters, doseq=True)}", headers)
-
-
-def get(port: int, path: str, parameters: Parameters, *headers: str) -> Answer:
-    """The answer to a GET."""
-    return send(port, get_text(path, parameters, *headers))
-
-
-def post(port: int, path: str, parameters: Parameters, *headers: str) -> Answer:
-    """The answer to a POST of a form."""
-    body = urllib.parse.urlencode(parameters, doseq=True).encode()
-    return send(port, request_text("POST", path, ("Content-Type: application/x-www-form-urlencoded", *headers), body))
-
-
-# ---- the proxies
-
-
-def free_port() -> int:
-    """A port of this machine that nothing listens on."""
-    with socket.socket() as free:
-        free.bind(("127.0.0.1", 0))
-        return int(free.getsockname()[1])
-
-
-class Proxy:
-    """The program before a server."""
-
-    def __init__(self, program: str, upstream: str, *options: str) -> None:
-        self.port, self.inside = free_port(), free_port()
-        words = [program, "-listen", f"127.0.0.1:{self.port}", "-internal-listen", f"127.0.0.1:{self.inside}"]
-        words += ["-upstream", upstream, "-label", "tenant", *options]
-        self.log = tempfile.TemporaryFile()
-        self.process = subprocess.Popen(words, stdout=subprocess.DEVNULL, stderr=self.log)
-        for _ in range(200):
-            with contextlib.suppress(OSError), socket.create_connection(("127.0.0.1", self.port)):
-                return
-            time.sleep(0.05)
-        self.end()
-        raise SystemExit("the proxy does not start")
-
-    def end(self) -> tuple[int, str]:
-        """Ends the program, and returns its status and its log."""
-        self.process.send_signal(signal.SIGTERM)
-        status = self.process.wait(30)
-        self.log.seek(0)
-        return status, self.log.read().decode(errors="replace")
 
 
 class World:
@@ -405,7 +277,8 @@ def honest_others(world: World) -> None:
 
 def honest_without_series(world: World) -> None:
     """Requests that read no series get what the server says, and values of labels come by POST, too."""
-    for path, parameters in (("/api/v1/format_query", {"query": "sum(rate(a[5m]))by(b)"}), ("/api/v1/status/buildinfo", {})):
+    without: Sequence[tuple[str, dict[str, str]]] = (("/api/v1/format_query", {"query": "sum(rate(a[5m]))by(b)"}), ("/api/v1/status/buildinfo", {}))
+    for path, parameters in without:
         found = same_for_both(world, path, get_text(path, parameters, AS_A))
         check(f"{path}: as the server", found.status == 200 and found.body == get(world.many.port, path, parameters).body, found.body)
     for selectors in SELECTORS_OF_SERIES:
@@ -478,122 +351,12 @@ def hostile(world: World) -> int:
     return number
 
 
-# ---- a server that wants to know who asks
-
-# The password of the user proxy, and its bcrypt hash.
-PASSWORD = "word of a"
-PASSWORD_HASH = "$2b$04$abcdefghijklmnopqrstuuMPgdu8gU/etKIiayg92X9D7PP3JQ.Zm"
-
-
-def certificate(folder: Path, name: str) -> tuple[Path, Path]:
-    """The files of a certificate of its own authority, for 127.0.0.1, and of its key."""
-    made, key = folder / f"{name}.crt", folder / f"{name}.key"
-    words = ["openssl", "req", "-x509", "-newkey", "ec", "-pkeyopt", "ec_paramgen_curve:prime256v1", "-nodes", "-days", "1", "-subj", f"/CN={name}"]
-    subprocess.run([*words, "-addext", "subjectAltName=IP:127.0.0.1", "-keyout", key, "-out", made], check=True, capture_output=True)
-    return made, key
-
-
-def words_of(options: Mapping[str, object]) -> Sequence[str]:
-    """The words of a command line for options and their values."""
-    return [str(word) for pair in options.items() for word in pair]
-
-
-def known_proxies(program: str) -> None:
-    """A server that has certificates and passwords answers the proxy that has them, and no other."""
-    if shutil.which("openssl") is None:
-        print("not tried: a server that wants to know who asks: there is no openssl here")
-        return
-    with contextlib.ExitStack() as stack:
-        folder = Path(stack.enter_context(tempfile.TemporaryDirectory()))
-        (server, server_key), (mine, key), (others, others_key) = (certificate(folder, name) for name in ("server", "proxy", "other"))
-        (folder / "web.yml").write_text(
-            f"tls_server_config: {{cert_file: {server}, key_file: {server_key}, client_auth_type: RequireAndVerifyClientCert, client_ca_file: {mine}}}\n"
-            f"basic_auth_users: {{proxy: '{PASSWORD_HASH}'}}\n"
-        )
-        (folder / "prometheus.yml").write_text("{}\n")
-        (folder / "word").write_text(PASSWORD + "\n")
-        (folder / "other word").write_text("another word\n")
-        port = free_port()
-        options = ("--config.file", "prometheus.yml", "--web.config.file", "web.yml", "--storage.tsdb.path", "data")
-        behind = subprocess.Popen(
-            ["prometheus", *options, f"--web.listen-address=127.0.0.1:{port}"], cwd=folder, stdout=subprocess.DEVNULL, stderr=subprocess.DEVNULL
-        )
-        stack.callback(behind.wait, 30)
-        stack.callback(behind.terminate)
-        password = {"-upstream-user": "proxy", "-upstream-password-file": folder / "word"}
-        trust, own = {"-upstream-ca-file": server}, {"-upstream-cert-file": mine, "-upstream-key-file": key}
-        proxy = Proxy(program, f"https://127.0.0.1:{port}", "-tenant", "a", *words_of({**password, **trust, **own}))
-        found = get(proxy.port, "/api/v1/query", {"query": "vector(1)"}, "Authorization: Basic eDp5")
-        check("the proxy that the server knows", found.status == 200 and b'"1"' in found.body, found.body)
-        check("the proxy ends", proxy.end()[0] == 0)
-        for name, wrong in (
-            ("a wrong password", {**password, **trust, **own, "-upstream-password-file": folder / "other word"}),
-            ("no password", {**trust, **own}),
-            ("the certificate of another", {**password, **trust, "-upstream-cert-file": others, "-upstream-key-file": others_key}),
-            ("no certificate", {**password, **trust}),
-            ("a server that is not known", {**password, **own}),
-        ):
-            words = [program, "-upstream", f"https://127.0.0.1:{port}", "-label", "tenant", "-tenant", "a", "-start-timeout", "1s", *words_of(wrong)]
-            ended = subprocess.run(words, capture_output=True, timeout=30, check=False)
-            check(f"{name}: the proxy does not start", ended.returncode == 1 and PASSWORD.encode() not in ended.stderr, ended)
-
-
-# ---- targets of tenants
-
-
-class Targets(BaseHTTPRequestHandler):
-    """Shows the metrics of a target of the tenant that the path names."""
-
-    def do_GET(self) -> None:
-        """Answers."""
-        mine = self.path == "/a"
-        own = "a_gauge 1" if mine else "# HELP hidden_gauge a help\nhidden_gauge 1"
-        text = f"# HELP both_gauge {'of a' if mine else 'hidden help'}\n# TYPE both_gauge gauge\nboth_gauge 1\n# TYPE a_gauge gauge\n{own}\n".encode()
-        self.send_response(200)
-        self.send_header("Content-Type", "text/plain")
-        self.send_header("Content-Length", str(len(text)))
-        self.end_headers()
-        self.wfile.write(text)
-
-    def log_message(self, *_: object) -> None:
-        """Says nothing."""
-
-
-def metadata_of_targets(program: str) -> None:
-    """What is said of metrics is what the targets of the tenant say, whatever others say of a metric of the same name."""
-    with contextlib.ExitStack() as stack:
-        folder = Path(stack.enter_context(tempfile.TemporaryDirectory()))
-        targets = ThreadingHTTPServer(("127.0.0.1", 0), Targets)
-        threading.Thread(target=targets.serve_forever, daemon=True).start()
-        stack.callback(targets.shutdown)
-        found = []
-        for tenants in ("a", "b"), ("a",):
-            text = "global: {scrape_interval: 1s}\nscrape_configs:\n" + "".join(
-                f"- job_name: {it}\n  metrics_path: /{it}\n  static_configs:\n  - targets: ['127.0.0.1:{targets.server_port}']\n    labels: {{tenant: {it}}}\n"
-                for it in tenants
-            )
-            server = Prometheus(folder / "".join(tenants), [Series("up", {}, [1] * 240)], text)
-            stack.callback(server.end)
-            for _ in range(200):
-                if len(json.loads(server.get("/api/v1/targets/metadata?metric=both_gauge")[1]).get("data", ())) == len(tenants):
-                    break
-                time.sleep(0.1)
-            proxy = Proxy(program, f"http://127.0.0.1:{server.port}", "-tenant", "a")
-            stack.callback(proxy.end)
-            parameters = ({}, {"metric": "both_gauge"}, {"metric": "hidden_gauge"}, {"limit": 1}, {"limit_per_metric": 1})
-            found.append([get(proxy.port, "/api/v1/metadata", it).body for it in parameters])
-            alone = server.get("/api/v1/metadata")[1]
-        check("metadata: one answer whatever others have", found[0] == found[1], found)
-        check("metadata: nothing of others", not HIDDEN.search(b"".join(found[0])), found)
-        check("metadata: as the tenant's own server", json.loads(found[0][0]) == json.loads(alone) and b"of a" in found[0][1], (found, alone))
-
-
 def alertmanagers(program: str) -> None:
     """The paths of an Alertmanager, where Debian's is installed."""
     if shutil.which("prometheus-alertmanager") is None:
         print("not tried: the proxy before an Alertmanager: there is no prometheus-alertmanager here")
         return
-    proxy_alertmanager.compare(check, lambda *options: Proxy(program, *options), free_port)
+    proxy_alertmanager.compare(program)
 
 
 def metrics(world: World) -> None:

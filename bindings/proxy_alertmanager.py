@@ -6,11 +6,11 @@ import json
 import subprocess
 import tempfile
 import time
-from collections.abc import Callable, Mapping, Sequence
+from collections.abc import Mapping, Sequence
 from pathlib import Path
 from typing import Any
 
-Check = Callable[[str, bool, object], None]
+from proxy_client import HIDDEN, Proxy, check, free_port
 
 SETTINGS = """
 route: {receiver: all, group_by: [alertname], group_wait: 1s}
@@ -110,12 +110,12 @@ READ_PATHS = (
 )
 
 
-def read_all(check: Check, proxies: Sequence[int], when: str) -> None:
+def read_all(proxies: Sequence[int], when: str) -> None:
     """Each path gives one answer, whatever others have, and nothing of theirs."""
     for path in READ_PATHS:
         many, one = (ask(port, "GET", path) for port in proxies)
         check(f"{path} {when}: one answer whatever others have", many[0] == 200 and normal(many[1]) == normal(one[1]), (many, one))
-        check(f"{path} {when}: nothing of others", "idden" not in json.dumps(many), many)
+        check(f"{path} {when}: nothing of others", not HIDDEN.search(json.dumps(many).encode()), many)
 
 
 def states(server: Alertmanager) -> Mapping[str, set[str]]:
@@ -126,15 +126,15 @@ def states(server: Alertmanager) -> Mapping[str, set[str]]:
     return found
 
 
-def hold(check: Check, many: Alertmanager, proxies: Sequence[int]) -> None:
+def hold(many: Alertmanager, proxies: Sequence[int]) -> None:
     """Compares the proxies before both servers, and attacks a silence of tenant b."""
     made = ask(many.port, "POST", "/api/v2/silences", silence(("mark", "hidden_mark", False), ("tenant", "b", False), ("alertname", "Down", False)))
     theirs = f"/api/v2/silence/{made[1]['silenceID']}"
-    read_all(check, proxies, "at first")
+    read_all(proxies, "at first")
     for body, status in ASKED:
         found = [ask(port, "POST", "/api/v2/silences", body) for port in proxies]
         check(f"{body}: status {status}", [it[0] for it in found] == [status, status], found)
-    read_all(check, proxies, "with silences")
+    read_all(proxies, "with silences")
     taken = silence(EVERYTHING, id=made[1]["silenceID"])
     for method, path, sent in ("GET", theirs, None), ("DELETE", theirs, None), ("POST", "/api/v2/silences", taken):
         found = [ask(port, method, path, sent) for port in proxies]
@@ -148,11 +148,11 @@ def hold(check: Check, many: Alertmanager, proxies: Sequence[int]) -> None:
         own = f"/api/v2/silence/{changed[1]['silenceID']}"
         check("a silence of one's own is changed", changed[0] == 200 and ask(port, "GET", own)[1]["comment"] == "changed", changed)
         check("a silence of one's own is ended", ask(port, "DELETE", own)[0] == 200 and ask(port, "GET", own)[1]["status"]["state"] == "expired", own)
-    read_all(check, proxies, "at last")
+    read_all(proxies, "at last")
 
 
-def compare(check: Check, start: Callable[..., Any], free_port: Callable[[], int]) -> None:
-    """Starts two servers, one with the alerts of several tenants and one with those of a alone, and a proxy before each by `start`."""
+def compare(program: str) -> None:
+    """Starts two servers, one with the alerts of several tenants and one with those of a alone, and a proxy before each."""
     with contextlib.ExitStack() as stack:
         folder = Path(stack.enter_context(tempfile.TemporaryDirectory()))
         servers, proxies = [], []
@@ -160,7 +160,7 @@ def compare(check: Check, start: Callable[..., Any], free_port: Callable[[], int
             servers.append(Alertmanager(folder / name, free_port(), tenants))
             stack.callback(servers[-1].end)
             options = ("-start-timeout", "0", "-tenant", "a", "-alertmanager", f"http://127.0.0.1:{servers[-1].port}")
-            proxy = start("http://127.0.0.1:9", *options)
+            proxy = Proxy(program, "http://127.0.0.1:9", *options)
             stack.callback(proxy.end)
             proxies.append(proxy.port)
-        hold(check, servers[0], proxies)
+        hold(servers[0], proxies)

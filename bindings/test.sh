@@ -645,7 +645,7 @@ test_editor() {
 }
 
 export -f shows_own_names build_c bench_prints example_prints build_sanitized overrun_is_reported under_valgrind build_project
-export -f find_installed in_python unit_tests print_counts print_cargo_counts
+export -f find_installed in_python unit_tests print_counts print_cargo_counts sizes_have_each_crate
 export debian_crates
 export -f formatted_rust formatted_go checked_by_shellcheck in_cargo cargo_tests cargo_tests_with_serde build_rust cache_keys in_go go_tests
 

@@ -35,7 +35,7 @@ proxied() {
     export GOPROXY=file://$folder/proxy
     begin_program "$module"
     go get "$module@latest"
-    prints_line go run .
+    prints_line go run -mod=mod .
     GOBIN=$folder/bin go install "$module/cmd/promql-proxy@latest"
     "$folder/bin/promql-proxy" -version
     go mod vendor

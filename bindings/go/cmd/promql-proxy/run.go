@@ -45,16 +45,8 @@ func newService(o *options, log *logs.Logger) (*service, error) {
 	if alertmanager != nil {
 		table.AddAlertmanager()
 	}
-	promql.SetLimits(o.maxQuery, o.maxPatterns)
-	target, err := promql.ParseTarget(o.target)
-	if err != nil {
-		return nil, fmt.Errorf("-target: %w", err)
-	}
-	if err := promql.SetTarget(target); err != nil {
-		return nil, fmt.Errorf("-target: %w", err)
-	}
-	if err := o.tenants.Check(); err != nil {
-		return nil, fmt.Errorf("within -max-query and -max-patterns: %w", err)
+	if err := setLibrary(o); err != nil {
+		return nil, err
 	}
 	counted := metrics.New(time.Now())
 	handler := &front.Front{
@@ -77,6 +69,22 @@ func newService(o *options, log *logs.Logger) (*service, error) {
 	s.clients = s.server(handler, o.writeTimeout)
 	s.inside = s.server(s.internal, o.readTimeout)
 	return s, nil
+}
+
+// setLibrary sets what the library reads, and looks whether the matcher of the tenant is within that.
+func setLibrary(o *options) error {
+	promql.SetLimits(o.maxQuery, o.maxPatterns)
+	target, err := promql.ParseTarget(o.target)
+	if err == nil {
+		err = promql.SetTarget(target)
+	}
+	if err != nil {
+		return fmt.Errorf("-target: %w", err)
+	}
+	if err := o.tenants.Check(); err != nil {
+		return fmt.Errorf("within -max-query and -max-patterns: %w", err)
+	}
+	return nil
 }
 
 // server returns a server in which no client holds a connection for longer than the timeouts.

@@ -8,9 +8,13 @@ import (
 // ErrOther says that an answer is about what the tenant may not see.
 var ErrOther = errors.New("it is of another tenant")
 
-// The members of an alert of an Alertmanager, and of a group of them, that pass.
+// The members of an alert of an Alertmanager, of its status, and of a group of alerts that pass.
 func alertMembers() []string {
 	return []string{"annotations", "endsAt", "fingerprint", "generatorURL", "labels", "receivers", "startsAt", "status", "updatedAt"}
+}
+
+func statusMembers() []string {
+	return []string{"inhibitedBy", "mutedBy", "silencedBy", "state"}
 }
 
 func alertGroupMembers() []string {
@@ -87,7 +91,7 @@ func received(alerts []object, allows Allows) ([]object, error) {
 	return kept, nil
 }
 
-// dropInhibitors leaves of the alerts that inhibit this one those that are seen.
+// dropInhibitors leaves of the status of an alert what passes, and of the alerts that inhibit it those that are seen.
 func dropInhibitors(alert object, seen map[string]bool) error {
 	raw, has := alert["status"]
 	if !has {
@@ -113,6 +117,7 @@ func dropInhibitors(alert object, seen map[string]bool) error {
 	if err != nil {
 		return err
 	}
+	status = only(status, statusMembers())
 	status["inhibitedBy"] = text
 	alert["status"], err = json.Marshal(status)
 	return err

@@ -90,7 +90,7 @@ const manySilences = `[{"id":"mine","matchers":[{"name":"a","value":"b","isRegex
 	{"id":"secret 5","matchers":[{"name":"x","value":"team-a","isRegex":false}]},
 	{"id":"secret 6","matchers":[]},{"id":"secret 7"}]`
 
-const manyReceived = `[{"fingerprint":"1","labels":{"tenant":"team-a"},"status":{"state":"suppressed","inhibitedBy":["2","3"],"silencedBy":["s"]},"more":"secret"},
+const manyReceived = `[{"fingerprint":"1","labels":{"tenant":"team-a"},"status":{"state":"suppressed","inhibitedBy":["2","3"],"silencedBy":["s"],"more":"secret"},"more":"secret"},
 	{"fingerprint":"2","labels":{"tenant":"secret"},"status":{"inhibitedBy":[]}},{"fingerprint":"3","labels":{"tenant":"team-a"},"annotations":{"a":"b"}},
 	{"fingerprint":"4","labels":{}},{"fingerprint":"5"},{"labels":{"tenant":"TEAM-A"}}]`
 

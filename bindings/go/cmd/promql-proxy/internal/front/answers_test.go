@@ -62,6 +62,7 @@ func TestServersThatFail(t *testing.T) {
 		"long headers":        {hijacked("HTTP/1.1 200 OK\r\nX-A: " + strings.Repeat("a", 1<<17) + "\r\n\r\n"), query, 502, "unavailable", noAnswer},
 		"many early ones":     {hijacked(strings.Repeat("HTTP/1.1 103 Early Hints\r\n\r\n", 100)), query, 502, "unavailable", noAnswer},
 		"asks who it is":      {said(401, http.Header{"Www-Authenticate": {"Basic"}}, "secret"), query, 502, "unavailable", "the server behind failed with status 401"},
+		"asks in JSON":        {said(401, isJSON, `{"status":"error"}`), query, 502, "unavailable", "the server behind failed with status 401"},
 		"asks its proxy":      {said(407, nil, "secret"), query, 502, "unavailable", "the server behind failed with status 407"},
 		"says no in HTML":     {said(403, http.Header{"Content-Type": {"text/html"}}, "secret"), query, 403, "bad_data", "the server behind failed with status 403"},
 		"has no such path":    {said(404, nil, "secret"), query, 404, "not_found", "the server behind failed with status 404"},

@@ -91,6 +91,11 @@ func (e *exchange) answer(found *endpoint.Endpoint) *failure.Error {
 	if err != nil {
 		return err
 	}
+	return e.carryOut(plan, header)
+}
+
+// carryOut asks what a plan asks, in the time that there is for both of its questions.
+func (e *exchange) carryOut(plan *endpoint.Plan, header http.Header) *failure.Error {
 	// The request ends with the client's, so a client that leaves takes its query with it.
 	ctx, cancel := context.WithTimeout(e.request.Context(), e.Timeout)
 	defer cancel()
@@ -142,7 +147,7 @@ func (e *exchange) pass(ctx context.Context, plan *endpoint.Plan, header http.He
 		return failed
 	}
 	defer response.Body.Close()
-	if response.StatusCode >= 400 && !isJSON(response) {
+	if response.StatusCode >= 400 && (!isJSON(response) || asksWho(response)) {
 		return e.failedBehind(plan, response)
 	}
 	upstream.CopyHeaders(e.Header(), response)
@@ -230,8 +235,7 @@ func (e *exchange) failedBehind(plan *endpoint.Plan, response *http.Response) *f
 	message := fmt.Sprintf("the server behind failed with status %d", response.StatusCode)
 	status, kind := response.StatusCode, failure.Unavailable
 	switch {
-	case status == http.StatusUnauthorized || status == http.StatusProxyAuthRequired:
-		// Those ask the client to say who it is, and the server behind is not told that.
+	case asksWho(response):
 		status = http.StatusBadGateway
 	case status == http.StatusNotFound:
 		kind = failure.NotFound
@@ -246,6 +250,11 @@ func (e *exchange) failedBehind(plan *endpoint.Plan, response *http.Response) *f
 
 func badGateway(reason failure.Reason, message string, cause error) *failure.Error {
 	return &failure.Error{Status: http.StatusBadGateway, Kind: failure.Unavailable, Reason: reason, Message: message, Cause: cause}
+}
+
+// asksWho says whether a server behind asks who the proxy is. A client would take that for a question to itself.
+func asksWho(response *http.Response) bool {
+	return response.StatusCode == http.StatusUnauthorized || response.StatusCode == http.StatusProxyAuthRequired
 }
 
 func isJSON(response *http.Response) bool {

@@ -47,6 +47,9 @@ func TestConflicts(t *testing.T) {
 				t.Errorf("%v %s: %d %s", it.tenants, text, response.StatusCode, body)
 			}
 		}
+		if response, body := proxy.get(t, "/api/v1/series", nil); response.StatusCode != http.StatusOK {
+			t.Errorf("%v: %d %s", it.tenants, response.StatusCode, body)
+		}
 		proxy.behind.all()
 		for _, text := range it.others {
 			response, body := proxy.get(t, "/api/v1/query", url.Values{"query": {text}})
