@@ -8,14 +8,14 @@ import re
 import sys
 from dataclasses import dataclass
 from functools import partial
-from typing import Any, Callable, Dict, Iterator, List, Optional, Tuple
+from typing import Any, Callable, ContextManager, Dict, Iterator, List, Optional, Tuple
 
 import promql
 
 from .checked_queries import QueryChecker, limited_to
 from .documents import Document, Skipped, Status, read_document
 from .files import BLANKS, STDIN, FileError, write_file
-from .jobs import Report, add_arguments, as_bytes, skipped_file, work_on
+from .jobs import Report, add_arguments, as_bytes, bounds_of, skipped_file, work_on
 from .messages import ERROR, KEPT, LAYOUT, REJECTED, RULE, WARNING, Message, in_order, kind_of_skipped, left_out, of_error, of_file, placed
 from .options import PRETTY, STYLES, WIDTH, whole_number
 from .queries import Query, SameQuery, edited
@@ -72,11 +72,10 @@ class Printer:
         """The query in this style; for people, whose chains of operators are flat, where it would be longer than a query may be."""
         if self.style == PRETTY:
             try:
-                text = promql.format(query, width=width)
+                with _short_output():
+                    return promql.format(query, width=width)
             except promql.LongOutputError:
-                text = ""
-            if text and is_short(text):
-                return text
+                pass
         return _for_people(query, width)
 
     def means(self, new: str, query: Query) -> bool:
@@ -109,7 +108,14 @@ class Printer:
 
 def _for_people(query: str, width: int) -> str:
     """The query, laid out for people. Where it has to stay on one line the width is the greatest that there is."""
-    return promql.format_query(query, width=min(width, promql.MAX_LINE))
+    with _short_output():
+        return promql.format_query(query, width=min(width, promql.MAX_LINE))
+
+
+def _short_output() -> ContextManager[None]:
+    """Lays out no more than a query may have."""
+    limits = promql.limits()
+    return limited_to(max_output=min(limits["max_output"], limits["max_len"]))
 
 
 def is_short(query: str) -> bool:
@@ -146,7 +152,7 @@ def _format_file(enforcer: Callable[[str], str], arguments: argparse.Namespace, 
     messages: List[Message] = []
     queries = 0
     try:
-        document = read_document(target, arguments.dashboard, most_patterns=arguments.max_file_patterns)
+        document = read_document(target, arguments.dashboard, bounds=bounds_of(arguments))
         if isinstance(document, Skipped):
             return skipped_file(target, document, arguments.verbose)
         messages += left_out(document, arguments.verbose)
