@@ -9,6 +9,7 @@ bindings/test.sh --attack calls this, and the attacks that are among the tests o
 
 import contextlib
 import http.client
+import itertools
 import json
 import math
 import os
@@ -450,6 +451,25 @@ def attack_files():
         check("nothing is left beside the files", not list(Path(folder).glob(".promql-*")), os.listdir(folder))
 
 
+def attack_by_large_files():
+    """Files of 1 MiB of one construct, and of as much of it as is looked at: one of the commands looks at each, in turn."""
+    if run([sys.executable, "-c", "import ruamel.yaml, yaml; yaml.CSafeLoader"]).status:
+        print(f"not tried: large files: {sys.executable} has no ruamel.yaml, or no PyYAML with libyaml")
+        return
+    sys.path.insert(0, str(ROOT / "bindings/python/tests"))
+    from dear_files import dear_files
+
+    commands = itertools.cycle((["check"], ["lint"], ["format", "--check"], ["lint", "--fix"], ["check", "--output=json"]))
+    with tempfile.TemporaryDirectory() as folder:
+        for (name, text), command in zip(dear_files(), commands):
+            path = Path(folder, name.replace("/", " "))
+            path.write_text(text, encoding="utf-8", newline="")
+            ran = run([sys.executable, "-m", "promql", *command, path])
+            is_so = ran.status in range(4) and "Traceback" not in ran.err and "Error:" not in ran.err
+            check(f"{' '.join(command)} {name}", is_so, (ran.status, ran.err[:300]))
+            path.unlink()
+
+
 # ---- the page
 
 
@@ -521,7 +541,7 @@ def attack_page():
 
 
 def main():
-    for attack in (attack_by_queries, attack_by_trees, attack_by_stacks, attack_outputs, attack_terminals, attack_files, attack_page):
+    for attack in (attack_by_queries, attack_by_trees, attack_by_stacks, attack_outputs, attack_terminals, attack_files, attack_by_large_files, attack_page):
         attack()
     return checks.end()
 

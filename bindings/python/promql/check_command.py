@@ -7,8 +7,8 @@ from typing import Any, Tuple
 
 from .documents import Skipped, Status, read_document
 from .files import FileError, counted
-from .jobs import Report, add_arguments, as_bytes, failed, skipped_file, work_on
-from .messages import ERROR, REJECTED, RULE, WARNING, in_order, left_out, placed, skipped_queries
+from .jobs import Report, add_arguments, as_bytes, bounds_of, failed, skipped_file, work_on
+from .messages import ERROR, REJECTED, RULE, WARNING, in_order, left_out, listed, placed, skipped_queries
 from .targets import Target, targets_of
 from .visible import visible
 
@@ -44,7 +44,7 @@ def _run(arguments: argparse.Namespace) -> int:
 
 def _check_file(arguments: argparse.Namespace, target: Target) -> Report:
     try:
-        document = read_document(target, arguments.dashboard, dict(arguments.variable), arguments.max_file_patterns)
+        document = read_document(target, arguments.dashboard, dict(arguments.variable), bounds_of(arguments))
         if isinstance(document, Skipped):
             return skipped_file(target, document, arguments.verbose)
         others, warnings = ([], []) if arguments.queries else document.checks()
@@ -53,8 +53,8 @@ def _check_file(arguments: argparse.Namespace, target: Target) -> Report:
     source = document.source
     rejected = {fault: REJECTED for fault in document.checker.faults(document.queries)}
     faults = {**dict.fromkeys((*document.faults, *others), RULE), **rejected}
-    said = [placed(source, fault, ERROR, code, source.shown(fault)) for fault, code in faults.items()]
-    said += [placed(source, fault, WARNING, RULE, source.located(fault)) for fault in warnings]
+    said = [placed(source, fault, ERROR, faults.get(fault, RULE), source.shown(fault)) for fault in listed(faults, "errors")]
+    said += [placed(source, fault, WARNING, RULE, source.located(fault)) for fault in listed(warnings, "warnings")]
     said = in_order([*said, *left_out(document, arguments.verbose), *skipped_queries(document, True)])
     parts = [document.summary(), counted(len(faults), "error", "errors")]
     skipped = sum(1 for query in document.queries if query.skipped)

@@ -3,8 +3,9 @@
 from __future__ import annotations
 
 import re
+import sys
 from contextlib import contextmanager
-from typing import Dict, Iterable, Iterator, List, Optional, Sequence, Set
+from typing import Dict, Iterable, Iterator, List, NamedTuple, Optional, Sequence, Set
 
 import promql
 
@@ -12,15 +13,40 @@ from .files import Fault
 from .queries import Query
 from .token_texts import pattern_operators
 
-# The most that the patterns of a file may measure together, of each query text once (docs/guide/security.md, "What a file may cost").
-MOST_FILE_PATTERNS = 100_000
 # The most bytes of queries of a file for which that is said.
 _MOST_EXPLAINED = 65_536
-# The most characters that are read of a file to try what its variables may be, but for the first trial of each query.
-_MOST_TRIED = 1_000_000
+# The most variables of Grafana that the queries of a file have, and the most characters that are read to try what they may be, but for
+# the first trial of each query; and as how many characters a variable counts.
+_MOST_VARIABLES = 10_000
+_MOST_TRIED, _VARIABLE = 1_000_000, 100
 # Characters of the texts whose verdicts are kept, and how many are counted for a verdict.
 _MOST_KEPT, _VERDICT = 8_388_608, 1_000
 _SIZE = re.compile(r"patterns are too large: (\d+),", re.ASCII)
+
+
+class FileBounds(NamedTuple):
+    """What is looked at of a file at most (docs/guide/security.md, "What a file may cost"), by the names of the options that say it."""
+
+    max_file_patterns: int = 100_000
+    max_file_nodes: int = 50_000
+    max_lint_tokens: int = 25_000
+    max_exact_yaml: int = 200_000
+
+
+class Budget:
+    """What is left of a bound of a file, which may be read several times."""
+
+    def __init__(self, most: int) -> None:
+        self.most = most
+        self._left = most
+
+    def takes(self, amount: int) -> bool:
+        """Takes so much away, and returns whether it was left. What comes after more than that is not looked at either."""
+        self._left -= amount
+        return self._left >= 0
+
+
+NO_BOUND = Budget(sys.maxsize)
 
 
 @contextmanager
@@ -86,10 +112,14 @@ def forget_verdicts() -> None:
 
 
 class QueryChecker:
-    """Asks about the queries of one file, whose patterns may measure so much together."""
+    """Asks about the queries of one file within its bounds."""
 
-    def __init__(self, most_patterns: int = MOST_FILE_PATTERNS) -> None:
-        self._most = most_patterns
+    def __init__(self, bounds: FileBounds = FileBounds()) -> None:
+        self.bounds = bounds
+        self.lint_tokens = Budget(bounds.max_lint_tokens)
+        self.exact_yaml = Budget(bounds.max_exact_yaml)
+        self.variables = Budget(_MOST_VARIABLES)
+        self._most = bounds.max_file_patterns
         self._size = 0
         self._counted: Set[str] = set()
         # What the patterns would measure with the first query that is too much.
@@ -99,8 +129,10 @@ class QueryChecker:
         self._tried = 0
 
     def anew(self) -> QueryChecker:
-        """Another one with the same bound, for the file as it is read again."""
-        return QueryChecker(self._most)
+        """Another one with the same bounds, for the file as it is read again."""
+        checker = QueryChecker(self.bounds)
+        checker.exact_yaml = self.exact_yaml
+        return checker
 
     def admits(self, text: str) -> bool:
         """Whether the patterns of a text, with those of the file that came before, are within the bound."""
@@ -119,9 +151,9 @@ class QueryChecker:
             self._size += size
         return True
 
-    def tries(self, text: str) -> bool:
+    def tries(self, text: str, variables: int) -> bool:
         """Whether a text is to be read to try what its variables may be, as long as what is tried in the file is not too much."""
-        self._tried += len(text)
+        self._tried += len(text) + _VARIABLE * variables
         return self._tried <= _MOST_TRIED
 
     @staticmethod

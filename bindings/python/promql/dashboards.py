@@ -10,11 +10,13 @@ from typing import Any, Iterator, List, Mapping, NamedTuple, Optional, Tuple
 
 from .checked_queries import QueryChecker
 from .dashboard_places import JsonPath, is_of_prometheus, is_query, is_variable, query_of_variable, source_of, value_at
-from .files import BLANKS, Fault, FileError, Source, counted
-from .grafana_variables import VARIABLE, read_variables
+from .files import BLANKS, BoundError, Fault, FileError, Source, counted, nested_too_deeply
+from .grafana_variables import MOST_TEXTS, VARIABLE, read_variables
 from .queries import Edit, PlacedText, Query, SameQuery
 
-_JSON_TOKEN = re.compile(r'"(?:[^"\\]|\\.)*"|[\[\]{}:,]|[^\s\[\]{}:,"]+')
+_JSON_TOKEN = re.compile(r'"(?:[^"\\]|\\.)*"|[\[\]{},]|[^\s\[\]{}:,"]+')
+# What a value is deeper in is no dashboard.
+_MOST_LEVELS = 100
 _PIECE = re.compile(r"[^\\]+|\\u[dD][89abAB]..\\u[dD][c-fC-F]..|\\u....|\\.")
 _UNKNOWN_SOURCE = "a variable whose data source has no type, and which asks for no `label_values(..)` or the like"
 _OTHER_PLACE = "not looked at: an `expr` in a place where Grafana has no queries"
@@ -71,14 +73,15 @@ class Dashboard:
         return [], []
 
     def same(self, text: str, same_query: SameQuery) -> bool:
-        _load(replace(self.source, text=text))
-        old, new = list(_json_tokens(self.source.text)), list(_json_tokens(text))
+        source, most = replace(self.source, text=text), self.checker.bounds.max_file_nodes
+        _load(source)
+        old, new = list(_json_tokens(self.source, most)), list(_json_tokens(source, most))
         return len(old) == len(new) and all(_same(*pair, same_query) for pair in zip(old, new))
 
     def _read_queries(self, variables: Mapping[str, str]) -> Iterator[Query]:
-        for path, start, token in _json_tokens(self.source.text):
-            is_variable_text = self._is_query_variable(path)
-            if not token.startswith('"') or not (is_variable_text or path[-1:] == ("expr",)):
+        for path, start, token in _json_tokens(self.source, self.checker.bounds.max_file_nodes):
+            is_variable_text = bool(path) and self._is_query_variable(path)
+            if not (is_variable_text or path[-1:] == ("expr",)):
                 continue
             value = json.loads(token)
             if not value.strip(BLANKS):
@@ -106,6 +109,10 @@ class Dashboard:
         text = _substituted(text, variables)
         if skipped or not VARIABLE.search(text.text):
             return Query(text.text, [*text.offsets, *offsets], string, skipped, is_unread=skipped == _UNKNOWN_SOURCE)
+        # (a query with more variables is not read with them)
+        if not self.checker.variables.takes(min(len(VARIABLE.findall(text.text)), MOST_TEXTS)):
+            message = f"the queries of the file have more than {self.checker.variables.most:,} variables of Grafana, up to here"
+            raise BoundError.of(self.source, string.start, message)
         read = read_variables(text, self.checker)
         offsets = [*read.text.offsets, *offsets]
         return Query(read.text.text, offsets, string, read.unknown, variables=read.variables, is_unread=bool(read.unknown))
@@ -126,25 +133,33 @@ def _load(source: Source) -> Any:
         raise FileError.at(source, Fault(error.pos, error.pos, f"not JSON: {error.msg}")) from error
 
 
-def _json_tokens(text: str) -> Iterator[Tuple[JsonPath, int, str]]:
-    """Each token of a valid JSON text with its place, and for a value that is none of an array or an object its path.
+def _json_tokens(source: Source, most_values: int) -> Iterator[Tuple[JsonPath, int, str]]:
+    """Each token of a valid JSON text but colons, with its place, and for a string under the key of a query its path.
 
     The path has an index for each array that the value is in, and a key for each object; that of all else is empty.
     """
     path: List[Any] = []
-    for found in _JSON_TOKEN.finditer(text):
+    values = 0
+    for found in _JSON_TOKEN.finditer(source.text):
         token = found[0]
         place: JsonPath = ()
-        if token in "[{":
-            path.append(0 if token == "[" else None)
-        elif token in "]}":
+        if token in "]}":
             path.pop()
         elif token == ",":
             path[-1] = path[-1] + 1 if isinstance(path[-1], int) else None
         elif path and path[-1] is None:
             path[-1] = json.loads(token)
-        elif token != ":":
-            place = tuple(path)
+        else:
+            values += 1
+            if values > most_values:
+                message = f"the file has more than {most_values:,} values of JSON, up to here (--max-file-nodes)"
+                raise BoundError.of(source, found.start(), message)
+            if token in "[{":
+                path.append(0 if token == "[" else None)
+                if len(path) > _MOST_LEVELS:
+                    raise nested_too_deeply(source.name)
+            elif token[0] == '"' and path and path[-1] in ("expr", "query"):
+                place = tuple(path)
         yield place, found.start(), token
 
 

@@ -7,16 +7,17 @@ from enum import IntEnum
 from typing import Iterable, List, Mapping, NamedTuple, Optional, Protocol, Tuple, Union
 
 from ._answers import Status as Answered
-from .checked_queries import MOST_FILE_PATTERNS, QueryChecker
+from .checked_queries import FileBounds, QueryChecker
 from .dashboards import Dashboard, may_have_queries
-from .files import Fault, FileError, Source, nested_too_deeply, read_source
+from .files import BoundError, Fault, FileError, Source, nested_too_deeply, read_source
 from .queries import Query, SameQuery
 from .rule_files import RuleFile
 from .targets import Target
 
 
-_GROUPS = re.compile(r"^\s*groups:", re.M)
-# The key of a query, as YAML and JSON have it.
+GROUPS = re.compile(r"^[^\S\n]*groups:", re.M)
+# An escape that YAML may have in a key; the key of a query, as YAML and JSON have it.
+_ESCAPE = re.compile(r"\\[xuU]")
 _QUERY_KEY = re.compile(r"(?<![\w.$-])[\"']?expr[\"']?\s*:")
 
 
@@ -81,9 +82,9 @@ def read_document(
     target: Target,
     is_dashboard: bool,
     variables: Optional[Mapping[str, str]] = None,
-    most_patterns: int = MOST_FILE_PATTERNS,
+    bounds: FileBounds = FileBounds(),
 ) -> Union[Document, Skipped]:
-    """Reads a file, which is a dashboard where its name ends with .json, too, and whose patterns may measure so much.
+    """Reads a file within these bounds, which is a dashboard where its name ends with .json, too.
 
     A file that was found in a folder, and is something else, is skipped. One that is not YAML is that where no line of it begins with
     `groups:`, as in rules, and one that is not JSON where it has no `expr`.
@@ -93,9 +94,14 @@ def read_document(
     if target.left:
         return Skipped(target.left, True)
     try:
-        document = _read(target, is_dashboard, variables, QueryChecker(most_patterns))
+        document = _read(target, is_dashboard, variables, QueryChecker(bounds))
+    except BoundError as error:
+        text = error.source.text if error.source else ""
+        if target.is_found and not _QUERY_KEY.search(text) and not _ESCAPE.search(text):
+            return Skipped("no rule file", target.is_for_rules)
+        raise
     except NotReadError as error:
-        if target.is_found and not _GROUPS.search(error.text) and not (target.is_json and _QUERY_KEY.search(error.text)):
+        if target.is_found and not GROUPS.search(error.text) and not (target.is_json and _QUERY_KEY.search(error.text)):
             return Skipped("it is not YAML, and no line of it begins with `groups:`", _QUERY_KEY.search(error.text) is not None)
         raise
     if document is None or target.is_found and not document.is_known:
@@ -121,6 +127,8 @@ def _read(
             file = RuleFile(source, checker)
             return file if file.queries else board
         return board
+    except BoundError:
+        raise
     except RecursionError as error:
         raise NotReadError(source, nested_too_deeply(target.name)) from error
     except FileError as error:

@@ -7,9 +7,14 @@ import importlib.util
 import warnings
 from typing import Any, Dict, List
 
-from .files import Fault, FileError, Source
+from .checked_queries import NO_BOUND, Budget
+from .files import BoundError, Fault, FileError, Source, nested_too_deeply
+from .quick_yaml import Unclear
 from .yaml_nodes import Node, Token
 
+# As many characters as a token takes the time of.
+_TOKEN = 8
+_MOST_LEVELS = 400
 # What a token adds to the number of brackets that are open.
 _DEPTHS = {"[": 1, "{": 1, "]": -1, "}": -1}
 
@@ -17,11 +22,27 @@ _DEPTHS = {"[": 1, "{": 1, "]": -1, "}": -1}
 class ExactYaml:
     """A text as ruamel.yaml reads it."""
 
-    def __init__(self, source: Source) -> None:
+    def __init__(self, source: Source, budget: Budget = NO_BOUND, unclear: Unclear = Unclear()) -> None:
+        self.source = source
+        self._budget = budget
+        self._unclear = unclear
         # Those of scalars, by their ends.
         self._tokens: Dict[int, Token] = {}
-        self.roots = _Converter().documents(_compose(source, self._tokens))
+        self.take(len(source.text), unclear.at)
+        self.roots = _Converter().documents(_compose(source, self))
         self.has_aliases = True
+
+    def take(self, characters: int, at: int) -> None:
+        """Counts what is read."""
+        if not self._budget.takes(characters):
+            most = f"ruamel.yaml reads at most {self._budget.most:,} characters of a file (--max-exact-yaml)"
+            raise BoundError.of(self.source, at, f"{self._unclear.why}, and {most}")
+
+    def note(self, token: Any, before: int, in_flow: bool) -> None:
+        """Takes a token of the text, which stands for more characters where there are many."""
+        self.take(_TOKEN, token.start_mark.index)
+        if token.id == "<scalar>":
+            self._tokens[token.end_mark.index] = Token(token.start_mark.index, before, in_flow)
 
     def refuse(self) -> None:
         """No other reader knows better."""
@@ -74,11 +95,11 @@ def _yaml() -> Any:
     return importlib.import_module("ruamel.yaml")
 
 
-def _compose(source: Source, tokens: Dict[int, Token]) -> List[Any]:
-    """The nodes of each document of a file. The token of each scalar is put in by its end."""
+def _compose(source: Source, text: ExactYaml) -> List[Any]:
+    """The nodes of each document of a file, whose tokens the text is told of."""
     yaml = _yaml()
     reader = yaml.YAML(typ="safe", pure=True)
-    reader.Scanner = _noting_scanner(yaml, tokens)
+    reader.Scanner = _noting_scanner(yaml, text)
     try:
         with warnings.catch_warnings():
             # (an anchor may be there again)
@@ -95,17 +116,22 @@ def _compose(source: Source, tokens: Dict[int, Token]) -> List[Any]:
         raise FileError(f"{source.name}: not YAML: {error}") from error
 
 
-def _noting_scanner(yaml: Any, tokens: Dict[int, Token]) -> Any:
-    """The class of ruamel.yaml that finds tokens, which notes each scalar: so a text is scanned once."""
+def _noting_scanner(yaml: Any, text: ExactYaml) -> Any:
+    """The class of ruamel.yaml that finds tokens, which tells the text of each: so it is scanned once."""
     scanner: Any = yaml.scanner.Scanner
 
     class NotingScanner(scanner):  # type: ignore[misc]
         before, depth = 0, 0
 
+        def fetch_flow_collection_start(self, *arguments: Any, **options: Any) -> None:
+            # (each bracket that is open makes each token after it take longer)
+            if self.flow_level > _MOST_LEVELS:
+                raise nested_too_deeply(text.source.name)
+            super().fetch_flow_collection_start(*arguments, **options)
+
         def get_token(self) -> Any:
             token = super().get_token()
-            if token.id == "<scalar>":
-                tokens[token.end_mark.index] = Token(token.start_mark.index, self.before, self.depth > 0)
+            text.note(token, self.before, self.depth > 0)
             self.depth += _DEPTHS.get(token.id, 0)
             self.before = token.end_mark.index
             return token

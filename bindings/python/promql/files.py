@@ -42,12 +42,20 @@ class FileError(Exception):
     def reason(self) -> str:
         return self.message or str(self)
 
-    @staticmethod
-    def at(source: Source, fault: Fault) -> FileError:
+    @classmethod
+    def at(cls, source: Source, fault: Fault) -> FileError:
         """The error that this is wrong with a file."""
-        error = FileError(source.shown(fault), fault.number or 2)
+        error = cls(source.shown(fault), fault.number or 2)
         error.source, error.span, error.message = source, (fault.start, fault.end), fault.message
         return error
+
+
+class BoundError(FileError):
+    """A file has more than is looked at."""
+
+    @classmethod
+    def of(cls, source: Source, at: int, message: str) -> FileError:
+        return cls.at(source, Fault(at, at, f"not looked at: {message}"))
 
 
 def nested_too_deeply(name: str) -> FileError:

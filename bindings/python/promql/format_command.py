@@ -8,15 +8,15 @@ import re
 import sys
 from dataclasses import dataclass
 from functools import partial
-from typing import Any, Callable, Dict, Iterator, List, Optional, Tuple
+from typing import Any, Callable, ContextManager, Dict, Iterator, List, Optional, Tuple
 
 import promql
 
 from .checked_queries import QueryChecker, limited_to
 from .documents import Document, Skipped, Status, read_document
 from .files import BLANKS, STDIN, FileError, write_file
-from .jobs import Report, add_arguments, as_bytes, skipped_file, work_on
-from .messages import ERROR, KEPT, LAYOUT, REJECTED, RULE, WARNING, Message, in_order, kind_of_skipped, left_out, of_error, placed
+from .jobs import Report, add_arguments, as_bytes, bounds_of, skipped_file, work_on
+from .messages import ERROR, KEPT, LAYOUT, REJECTED, RULE, WARNING, Message, in_order, kind_of_skipped, left_out, of_error, of_file, placed
 from .options import PEOPLE, PRETTY, STYLES, WIDTH, whole_number
 from .queries import Query, SameQuery, edited
 from .targets import Target, targets_of
@@ -81,16 +81,16 @@ class Printer:
         """The query in this style; for people, whose chains of operators are flat, where it would be longer than a query may be."""
         if self.style == PRETTY:
             try:
-                text = promql.pretty(query, width=width)
+                with _short_output():
+                    return promql.pretty(query, width=width)
             except promql.LongOutputError:
-                text = ""
-            if text and is_short(text):
-                return text
+                pass
         return self._for_people(query, width)
 
     def _for_people(self, query: str, width: int) -> str:
         """The query, laid out for people. Where it has to stay on one line the width is the greatest that there is."""
-        return promql.format(query, width=min(width, promql.MAX_LINE), indent=self.indent, keep_spelling=self.keeps_spelling)
+        with _short_output():
+            return promql.format(query, width=min(width, promql.MAX_LINE), indent=self.indent, keep_spelling=self.keeps_spelling)
 
     def means(self, new: str, query: Query) -> bool:
         """Whether a text is what the query is to be."""
@@ -118,6 +118,12 @@ class Printer:
         # (a comment ends with its line)
         has_lines = query.spelling.room(self.width) < sys.maxsize or "\n" not in self._for_people(query.laid_out, sys.maxsize)
         return "" if has_lines else _NEEDS_LINES
+
+
+def _short_output() -> ContextManager[None]:
+    """Lays out no more than a query may have."""
+    limits = promql.limits()
+    return limited_to(max_output=min(limits["max_output"], limits["max_len"]))
 
 
 def is_short(query: str) -> bool:
@@ -169,7 +175,7 @@ def _format_file(enforcer: Callable[[str], str], arguments: argparse.Namespace, 
     messages: List[Message] = []
     queries = 0
     try:
-        document = read_document(target, arguments.dashboard, most_patterns=arguments.max_file_patterns)
+        document = read_document(target, arguments.dashboard, bounds=bounds_of(arguments))
         if isinstance(document, Skipped):
             return skipped_file(target, document, arguments.verbose)
         messages += left_out(document, arguments.verbose)

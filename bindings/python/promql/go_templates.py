@@ -63,13 +63,21 @@ class _Token(NamedTuple):
 _END_OF_TEXT = _Token("end of text", "")
 
 
+# As many characters as an action takes the time of.
+_ACTION = 4
 # What most templates have alone.
 _VALUE = re.compile(r"(?<!\{)\{\{ ?\$(?:labels\.[A-Za-z_]\w*|value) ?\}\}", re.ASCII)
 
 
+def size_of(text: str) -> int:
+    """How many characters of a template have to be parsed, and more for each action."""
+    actions = _VALUE.sub(" ", text).split("{{")[1:] if "{{" in text else ()
+    return sum(len(action.partition("}}")[0]) + _ACTION for action in actions)
+
+
 def check_template(text: str) -> None:
     """Returns where Prometheus would take the text as the template of an alert, and else raises TemplateError."""
-    fault = _fault(text) if "{{" in text and "{{" in _VALUE.sub(" ", text) else ""
+    fault = _fault(text) if size_of(text) else ""
     if fault:
         raise TemplateError(fault)
 

@@ -41,7 +41,7 @@ _NUMBERS = ("__interval_ms", "__range_ms", "__range_s", "__from", "__to")
 _MOST_TRIALS = 64
 # Bytes that are read in all trials of a query, but for the first one.
 _MOST_READ = 200_000
-_MOST_TEXTS = 600
+MOST_TEXTS = 600
 
 
 class Place(NamedTuple):
@@ -146,7 +146,7 @@ def read_variables(text: PlacedText, checker: QueryChecker) -> Reading:
     """The first reading of a query that is accepted, or the one that is accepted for the longest part."""
     best: Tuple[int, Optional[Reading]] = (-1, None)
     for variables in _trials(text.text):
-        if best[1] and not checker.tries(text.text):
+        if best[1] and not checker.tries(text.text, len(places_of(text.text))):
             break
         made, spans = variables.checked(text)
         reading = Reading(variables, made, "")
@@ -186,7 +186,7 @@ def _is_doubtful(error: promql.QueryError, span: Span) -> bool:
 def _trials(query: str) -> Iterator[Variables]:
     """The ways to read the variables of a query, the most likely one first."""
     places = places_of(query)
-    if len(VARIABLE.findall(query)) > _MOST_TEXTS or any(not place.kinds for place in places):
+    if len(VARIABLE.findall(query)) > MOST_TEXTS or any(not place.kinds for place in places):
         return
     open_places = sorted({(query[place.start : place.end], place.kinds) for place in places if len(place.kinds) > 1})
     most = min(_MOST_TRIALS, 1 + _MOST_READ // (len(query) + 1))

@@ -11,7 +11,7 @@ from multiprocessing.connection import Connection
 from typing import Any, Callable, Iterator, List, NamedTuple, Optional, Sequence
 
 from . import colors
-from .checked_queries import MOST_FILE_PATTERNS
+from .checked_queries import FileBounds
 from .documents import Skipped, Status
 from .files import STDIN, FileError, counted, nested_too_deeply
 from .messages import EMPTY, ERROR, SEVERITIES, SKIPPED, UNREAD, Message, of_error, of_file, of_skipped
@@ -23,6 +23,12 @@ from .team_settings import settings_read_anew, with_settings
 from .visible import visible
 
 _MOST_JOBS = 256
+_BOUNDS = {
+    "max_file_patterns": "the most that the patterns of a file may measure together",
+    "max_file_nodes": "the most nodes that the YAML of a file may have, or values that its JSON may have",
+    "max_lint_tokens": "the most tokens of the queries of a file that the linter looks at",
+    "max_exact_yaml": "the most characters of a file that ruamel.yaml reads, where libyaml does not",
+}
 
 
 class Report(NamedTuple):
@@ -87,12 +93,8 @@ def add_arguments(parser: Any, without_file: str = "") -> None:
     parser.add_argument("--jobs", type=partial(whole_number, least=1, most=_MOST_JOBS), default=1, metavar="N", help="so many processes (1)")
     colors.add_argument(parser)
     add_target(parser)
-    parser.add_argument(
-        "--max-file-patterns",
-        type=whole_number,
-        metavar="N",
-        help=f"the most that the patterns of a file may measure together ({MOST_FILE_PATTERNS})",
-    )
+    for name, most in FileBounds()._asdict().items():
+        parser.add_argument(f"--{name.replace('_', '-')}", type=whole_number, metavar="N", help=f"{_BOUNDS[name]} ({most})")
     parser.add_argument("--max-len", type=whole_number, metavar="N", help="the most bytes of a query (32768)")
     parser.add_argument("--max-patterns", type=whole_number, metavar="N", help="the most that patterns of a query may measure (16000)")
     parser.add_argument("--config", metavar="FILE", help="the file with settings, and no .promql.toml or pyproject.toml")
@@ -102,6 +104,11 @@ def add_arguments(parser: Any, without_file: str = "") -> None:
     parser.add_argument("--fail-on", choices=SEVERITIES[::-1], help="the least severe messages with which the command fails")
     parser.add_argument("--strict", action="store_true", help="fail where something that may be a query is not looked at")
     parser.add_argument("-v", "--verbose", action="store_true", help="name what is skipped in files and folders")
+
+
+def bounds_of(arguments: argparse.Namespace) -> FileBounds:
+    """The bounds of a file that the options say."""
+    return FileBounds(*(getattr(arguments, name) for name in FileBounds._fields))
 
 
 def _guarded(work: Work, target: Target) -> Report:

@@ -8,7 +8,7 @@ from typing import List, Tuple
 
 _BREAK = re.compile(r"\r\n|\r|\n")
 # Characters between two places whose lines are known.
-_STEP = 8_192
+_STEP = 1_024
 
 
 class LineIndex:

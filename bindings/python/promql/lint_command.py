@@ -6,13 +6,14 @@ import argparse
 from dataclasses import replace
 from typing import Any, List, Tuple
 
+from .checked_queries import QueryChecker
 from .documents import Document, Skipped, Status, read_document
 from .files import STDIN, FileError, Source, counted, read_source, write_file
-from .jobs import Report, add_arguments, as_bytes, failed, skipped_file, work_on
+from .jobs import Report, add_arguments, as_bytes, bounds_of, failed, skipped_file, work_on
 from .lint.file_findings import FileFinding, FileLinter, fault_of
 from .lint.given_queries import GivenQuery
 from .lint.table import RULES, Selection, help_of, name_of, unknown_words
-from .messages import ERROR, RULE, UNREAD, Message, left_out, placed, region_of, skipped_queries
+from .messages import ERROR, RULE, UNREAD, Message, left_out, listed, placed, region_of, skipped_queries
 from .targets import Target, targets_of
 from .visible import visible
 
@@ -57,11 +58,10 @@ def _print_rules() -> int:
 
 def _read(arguments: argparse.Namespace, target: Target) -> Any:
     if target.query is not None:
-        return GivenQuery(Source(target.name, target.query, ""))
+        return GivenQuery(Source(target.name, target.query, ""), QueryChecker(bounds_of(arguments)))
     if target.name == STDIN and not arguments.files:
-        source = read_source(STDIN)
-        return GivenQuery(source)
-    return read_document(target, arguments.dashboard, most_patterns=arguments.max_file_patterns)
+        return GivenQuery(read_source(STDIN), QueryChecker(bounds_of(arguments)))
+    return read_document(target, arguments.dashboard, bounds=bounds_of(arguments))
 
 
 def _lint_file(arguments: argparse.Namespace, target: Target) -> Report:
@@ -79,11 +79,12 @@ def _lint_file(arguments: argparse.Namespace, target: Target) -> Report:
 
 def _fix_file(arguments: argparse.Namespace, selection: Selection, target: Target, document: Document) -> Report:
     """Writes the file, or prints it where it is none, and reports what is left."""
-    text, count = FileLinter(document, selection).fixed()
+    linter = FileLinter(document, selection)
+    text, count = linter.fixed()
     source = document.source
     if isinstance(document, GivenQuery):
         source = replace(source, text=text)
-        linter = FileLinter(GivenQuery(source), selection)
+        linter = FileLinter(GivenQuery(source, document.checker.anew()), selection)
         found = linter.findings()
         status = Status.FAILED if linter.left else Status.FINE
         messages = [finding._replace(text=source.shown(fault_of(it))) for it, finding in zip(found, _messages(source, found))]
@@ -93,7 +94,7 @@ def _fix_file(arguments: argparse.Namespace, selection: Selection, target: Targe
         return Report(Status.FINE, as_bytes(source.mark + text), [], len(document.queries))
     if count:
         write_file(source, (source.mark + text).encode())
-        document = _read(arguments, target) or document
+        document = linter.fixed_document
     return _report(arguments, document, selection, [counted(count, "query fixed", "queries fixed")] if count else [])
 
 
@@ -103,7 +104,7 @@ def _report(arguments: argparse.Namespace, document: Document, selection: Select
     found = linter.findings()
     status = Status.FAILED if linter.left else Status.FINE
     messages = list(left_out(document, arguments.verbose))
-    messages += [placed(source, fault, ERROR, RULE, source.shown(fault)) for fault in document.faults]
+    messages += [placed(source, fault, ERROR, RULE, source.shown(fault)) for fault in listed(document.faults, "errors")]
     messages += [*_not_looked_at(source, linter), *skipped_queries(document, arguments.verbose), *_messages(source, found)]
     skipped = sum(1 for query in document.queries if query.skipped)
     counts = [f"{skipped} skipped"] if skipped else []
@@ -114,7 +115,7 @@ def _report(arguments: argparse.Namespace, document: Document, selection: Select
 
 
 def _not_looked_at(source: Source, linter: FileLinter) -> List[Message]:
-    return [placed(source, fault, ERROR, UNREAD, source.shown(fault)) for fault in linter.left]
+    return [placed(source, fault, ERROR, UNREAD, source.shown(fault)) for fault in listed(linter.left, "errors")]
 
 
 def _messages(source: Source, found: List[FileFinding]) -> List[Message]:

@@ -14,8 +14,10 @@ SEVERITIES = INFO, WARNING, ERROR = ("info", "warning", "error")
 # since it is something else, a query that is laid out otherwise or stays as it is, and a run that found no query.
 RULE, FILE, UNREAD, SKIPPED, LAYOUT, KEPT, EMPTY = "rule", "file", "unread", "skipped", "layout", "kept", "empty"
 REJECTED = "P001"
-# Of a file so many places at most are named that are not looked at.
+# Of a file so many places at most are named that are not looked at, and so many errors, so many warnings, and so many queries that are
+# skipped.
 MOST_UNREAD = 100
+MOST_LISTED = 5_000
 DESCRIPTIONS = {
     RULE: "A rule, a group or a file of rules has a fault beside its queries.",
     FILE: "A file cannot be read or written.",
@@ -74,6 +76,15 @@ def in_order(messages: Iterable[Message]) -> List[Message]:
     return sorted(messages, key=lambda it: (*(it.region or {}).values(), it.message))
 
 
+def listed(faults: Iterable[Fault], what: str) -> List[Fault]:
+    """The faults by their places, of which the first ones are named."""
+    found = sorted(faults)
+    if len(found) > MOST_LISTED:
+        message = f"{'warning: ' * (what == 'warnings')}{len(found) - MOST_LISTED:,} more {what} from here on are not listed"
+        found[MOST_LISTED:] = [found[MOST_LISTED]._replace(message=message)]
+    return found
+
+
 def of_file(name: str, message: str, severity: str = ERROR, code: str = FILE) -> Message:
     """A message about a whole file."""
     shown = f"{name}: {message}" if severity == ERROR else f"{name}: {severity}: {message}"
@@ -109,10 +120,11 @@ def left_out(document: Document, is_verbose: bool) -> Iterator[Message]:
 def skipped_queries(document: Document, is_printed: bool) -> Iterator[Message]:
     """The queries that are skipped. In text that is printed where it is asked for."""
     source = document.source
-    for query in document.queries:
-        if query.skipped:
-            fault = query.whole(f"skipped: {query.skipped}")
-            yield placed(source, fault, *kind_of_skipped(query), source.located(fault) if is_printed else "")
+    skipped = [query for query in document.queries if query.skipped]
+    for number, query in enumerate(skipped[:MOST_LISTED], 1):
+        more = f"; so are {len(skipped) - MOST_LISTED:,} more" if number == MOST_LISTED < len(skipped) else ""
+        fault = query.whole(f"skipped: {query.skipped}{more}")
+        yield placed(source, fault, *kind_of_skipped(query), source.located(fault) if is_printed else "")
 
 
 def kind_of_skipped(query: Query) -> Tuple[str, str]:

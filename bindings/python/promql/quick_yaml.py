@@ -12,7 +12,8 @@ from bisect import bisect_right
 from functools import lru_cache
 from typing import Any, Dict, List, Match, Tuple
 
-from .files import Source
+from .checked_queries import FileBounds
+from .files import BoundError, Source
 from .yaml_nodes import Node, Token
 
 # What libyaml, which reads YAML 1.1, may take otherwise: the line ends of Unicode, and what is not printed; directives, ends of documents,
@@ -33,23 +34,29 @@ _VALUE = re.compile(r"[ \r\n]*:")
 
 
 class Unclear(Exception):
-    """The quick reader does not take this text."""
+    """The quick reader does not take this text: where it is so, and why."""
+
+    def __init__(self, at: int = 0, why: str = "libyaml may read this otherwise") -> None:
+        self.at, self.why = at, why
 
 
 class QuickYaml:
     """A text as libyaml reads it, where nothing in it is unusual."""
 
-    def __init__(self, source: Source) -> None:
+    def __init__(self, source: Source, most_nodes: int = FileBounds().max_file_nodes) -> None:
         loader = _loader()
+        if not loader:
+            raise Unclear(0, "there is no PyYAML with libyaml here")
         directive = _DIRECTIVE.match(source.text)
-        if not loader or _UNUSUAL.search(source.text, directive.end() if directive else 0):
-            raise Unclear
+        unusual = _UNUSUAL.search(source.text, directive.end() if directive else 0)
+        if unusual:
+            raise Unclear(unusual.start())
         self._text = source.text
-        composer = _Composer(source.text)
+        composer = _Composer(source, most_nodes)
         self.roots = composer.documents(loader)
         self.has_aliases = composer.has_aliases
         if "\t" in source.text and not _are_clear_tabs(source.text, composer.scalars):
-            raise Unclear
+            raise Unclear(source.text.index("\t"))
 
     def refuse(self) -> None:
         raise Unclear
@@ -69,6 +76,10 @@ class QuickYaml:
         if self._text[start : start + 1] in ("#", "&", "!"):
             raise Unclear
         return Token(start, before, value.in_flow)
+
+
+# (a text with fixes is read twice: to compare it, and to look at it)
+quick_yaml = lru_cache(maxsize=1)(QuickYaml)
 
 
 @lru_cache(maxsize=None)
@@ -127,8 +138,10 @@ def _is_within_line(text: str, tabs: Match[str], span: _Span) -> bool:
 class _Composer:
     """Makes nodes of the events of libyaml."""
 
-    def __init__(self, text: str) -> None:
-        self._text = text
+    def __init__(self, source: Source, most_nodes: int) -> None:
+        self._source = source
+        self._text = source.text
+        self._most = self._left = most_nodes
         self._roots: List[Node] = []
         self._anchors: Dict[str, Node] = {}
         # The nodes of the collections that are not at their end yet, the outermost ones first, and the collections.
@@ -156,7 +169,8 @@ class _Composer:
                     step(event)
         # (an error of YAML, of any kind, is told by the other reader)
         except (importlib.import_module("yaml").YAMLError, ValueError, OverflowError) as error:
-            raise Unclear from error
+            mark = getattr(error, "problem_mark", None)
+            raise Unclear(mark.index if mark else 0, f"not YAML to libyaml: {getattr(error, 'problem', error)}") from error
         finally:
             reader.dispose()
         return self._roots
@@ -175,9 +189,9 @@ class _Composer:
     def _add(self, kind: str, value: Any, style: str, event: Any) -> Node:
         start, anchor, tag = event.start_mark, event.anchor, event.tag
         if tag is not None and tag not in _TAGS:
-            raise Unclear
+            raise Unclear(start.index)
         node = Node(kind, value, tag or "", style, anchor or "", start.index, event.end_mark.index, start.column, self._flows > 0)
-        self._items[-1].append(node)
+        self._put(node, start.index)
         if anchor:
             # (there is a tag before it where it is not here)
             if self._text[start.index] != "&":
@@ -185,6 +199,13 @@ class _Composer:
             self._look_after(start.index + 1 + len(anchor))
             self._anchors[anchor] = node
         return node
+
+    def _put(self, node: Node, at: int) -> None:
+        self._left -= 1
+        if self._left < 0:
+            message = f"the file has more than {self._most:,} nodes of YAML, up to here (--max-file-nodes)"
+            raise BoundError.of(self._source, at, message)
+        self._items[-1].append(node)
 
     def _look_after(self, end: int) -> None:
         """Looks whether a name ends here, which may have more characters to others than to libyaml."""
@@ -209,5 +230,5 @@ class _Composer:
         if not node:
             raise Unclear
         self._look_after(event.end_mark.index)
-        self._items[-1].append(node)
+        self._put(node, event.start_mark.index)
         self.has_aliases = True

@@ -9,8 +9,9 @@ from __future__ import annotations
 import re
 from typing import Dict, FrozenSet, Iterator, List, Match, Optional, Sequence, Set, Tuple
 
+from .checked_queries import Budget
 from .files import Fault
-from .go_templates import TemplateError, check_template
+from .go_templates import TemplateError, check_template, size_of
 from .yaml_mappings import Mappings
 from .yaml_nodes import Node
 
@@ -34,8 +35,8 @@ LOOKED_AT = ("groups", "rules", "expr")
 _LABEL = re.compile(r"[a-zA-Z_][a-zA-Z0-9_]*")
 _METRIC = re.compile(r"[a-zA-Z_:][a-zA-Z0-9_:]*")
 _SURROGATE = re.compile("[\ud800-\udfff]")
-_DURATION = re.compile(r"(?:(\d+)y)?(?:(\d+)w)?(?:(\d+)d)?(?:(\d+)h)?(?:(\d+)m)?(?:(\d+)s)?(?:(\d+)ms)?", re.ASCII)
-_MILLISECONDS = (31_536_000_000, 604_800_000, 86_400_000, 3_600_000, 60_000, 1_000, 1)
+DURATION = re.compile(r"(?:(\d+)y)?(?:(\d+)w)?(?:(\d+)d)?(?:(\d+)h)?(?:(\d+)m)?(?:(\d+)s)?(?:(\d+)ms)?", re.ASCII)
+MILLISECONDS = (31_536_000_000, 604_800_000, 86_400_000, 3_600_000, 60_000, 1_000, 1)
 # In nanoseconds.
 _LONGEST = 2**63 - 1
 _MOST_DIGITS = 18
@@ -43,6 +44,9 @@ _NUMBER = re.compile(
     r"[-+]?(?:[0-9][0-9_]*(?:\.[0-9_]*)?|\.[0-9][0-9_]*)(?:[eE][-+]?[0-9]+)?|[-+]?0(?:x[0-9a-fA-F_]+|o[0-7_]+|b[01_]+)"
 )
 _LARGEST = 2**63 - 1
+
+# The most characters in the braces of templates that are looked at in a file, but for plain values.
+_MOST_IN_TEMPLATES = 100_000
 
 # The name of a rule, and its labels.
 _Identity = Tuple[str, FrozenSet[Tuple[str, str]]]
@@ -61,6 +65,7 @@ class RuleChecks:
         self._names: Set[str] = set()
         self._rules: Set[_Identity] = set()
         self._identities: Dict[int, _Identity] = {}
+        self._templates = Budget(_MOST_IN_TEMPLATES)
 
     def look_at_file(self, root: Node, fields: FrozenSet[str]) -> None:
         """Looks at a mapping with `groups`, of which these are all fields."""
@@ -99,7 +104,7 @@ class RuleChecks:
         self._look_at_rules(group)
 
     def _look_at_rules(self, group: Node) -> None:
-        for rule in _items(self._mappings.value(group, "rules")):
+        for rule in mappings_in(self._mappings.value(group, "rules")):
             if self._is_new("rule", rule):
                 self._look_at_rule(rule)
             self._look_for_same(rule)
@@ -205,10 +210,18 @@ class RuleChecks:
         elif not value.value.isascii() and _SURROGATE.search(value.value):
             self._complain(value, "half of a surrogate pair")
         elif is_template:
-            try:
+            self._look_at_template(value)
+
+    def _look_at_template(self, value: Node) -> None:
+        was_left = self._templates.takes(0)
+        try:
+            if self._templates.takes(size_of(value.value)):
                 check_template(value.value)
-            except TemplateError as error:
-                self._complain(value, f"not a template: {error}")
+            elif was_left:
+                most = f"{self._templates.most:,} characters in braces"
+                self._complain(value, f"not looked at from here on: the templates of the file have more than {most}")
+        except TemplateError as error:
+            self._complain(value, f"not a template: {error}")
 
     def _duration(self, owner: Node, key: str) -> int:
         """The nanoseconds of a duration; 0 for none, and for what is no duration, of which it complains."""
@@ -216,7 +229,7 @@ class RuleChecks:
         if not value or value.is_null():
             return 0
         text = value.value if value.is_scalar() else ""
-        found = _DURATION.fullmatch(text) if text else None
+        found = DURATION.fullmatch(text) if text else None
         if text == "0":
             return 0
         if not found:
@@ -252,7 +265,7 @@ class RuleChecks:
         self.faults.append(Fault(node.start, end, message))
 
 
-def _items(node: Optional[Node]) -> List[Node]:
+def mappings_in(node: Optional[Node]) -> List[Node]:
     """The mappings of a list."""
     return [item for item in node.value if item.kind == "mapping"] if node and node.kind == "sequence" else []
 
@@ -262,7 +275,7 @@ def _nanoseconds(duration: Match[str]) -> int:
     numbers = [(number or "0").lstrip("0") for number in duration.groups()]
     if max(map(len, numbers)) > _MOST_DIGITS:
         return _LONGEST + 1
-    return sum(int(number or 0) * unit for number, unit in zip(numbers, _MILLISECONDS)) * 1_000_000
+    return sum(int(number or 0) * unit for number, unit in zip(numbers, MILLISECONDS)) * 1_000_000
 
 
 def _is_number(node: Node) -> bool:

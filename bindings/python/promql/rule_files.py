@@ -10,13 +10,14 @@ from functools import partial
 from itertools import islice
 from typing import Any, Callable, Dict, Iterator, List, Optional, Set, Tuple, Union
 
+from . import limits
 from .checked_queries import QueryChecker
 from .dashboards import Dashboard
 from .exact_yaml import ExactYaml, look_for_reader
 from .files import Fault, FileError, Source, counted, nested_too_deeply
 from .placed_files import PlacedFile
 from .queries import Query, SameQuery
-from .quick_yaml import QuickYaml, Unclear
+from .quick_yaml import QuickYaml, Unclear, quick_yaml
 from .rule_checks import LOOKED_AT, RuleChecks
 from .rule_documents import WITH_QUERIES, Kind, RuleDocument, documents_of, is_board, is_logql, is_surely_of_rules
 from .scalars import Scalar
@@ -61,9 +62,9 @@ class RuleFile:
         self.source = source
         self.checker = checker or QueryChecker()
         try:
-            self._parts = _Parts(source, QuickYaml(source))
-        except Unclear:
-            self._parts = _Parts(source, ExactYaml(source))
+            self._parts = _Parts(source, quick_yaml(source, self.checker.bounds.max_file_nodes))
+        except Unclear as unclear:
+            self._parts = _Parts(source, ExactYaml(source, self.checker.exact_yaml, unclear))
         # The files that are texts of this one.
         self.texts: List[PlacedFile] = []
         for name, text, offsets in self._parts.texts if has_texts else ():
@@ -155,10 +156,10 @@ class RuleFile:
         yaml = self._parts.yaml
         if isinstance(yaml, QuickYaml):
             try:
-                return yaml.roots, QuickYaml(new).roots
+                return yaml.roots, quick_yaml(new, self.checker.bounds.max_file_nodes).roots
             except Unclear:
-                yaml = ExactYaml(self.source)
-        return yaml.roots, ExactYaml(new).roots
+                yaml = ExactYaml(self.source, self.checker.exact_yaml)
+        return yaml.roots, ExactYaml(new, self.checker.exact_yaml).roots
 
 
 class _Parts:
@@ -310,7 +311,9 @@ class _Parts:
         )
         for key, node in self._found.values():
             scalar = self._scalar(key, node)
-            offsets = scalar.offsets(node.value)
+            # (a longer text is rejected as a whole)
+            is_long, start = len(node.value) > limits()["max_len"], scalar.start + len(scalar.style)
+            offsets = [*range(start, start + len(node.value)), scalar.end] if is_long else scalar.offsets(node.value)
             if offsets is None:
                 self.yaml.refuse()
                 self.faults.append(Fault(scalar.start, scalar.start, _UNREAD))

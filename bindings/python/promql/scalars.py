@@ -4,10 +4,11 @@ from __future__ import annotations
 
 import re
 import sys
-from typing import Iterable, List, Match, NamedTuple, Optional, Tuple
+from typing import Iterable, Iterator, List, Match, NamedTuple, Optional, Tuple
 
 from .files import BLANKS, BREAK
 from .queries import Edit, PlacedText
+from .yaml_nodes import NULLS
 
 _BREAK = re.compile(BREAK)
 _LINE = re.compile(rf"([^\r\n]*)({BREAK}|\Z)")
@@ -23,7 +24,6 @@ _HEADER = re.compile(r"[|>]([-+1-9]*)([^\r\n]*)")
 # What only a double-quoted scalar can have, by an escape.
 _UNPRINTABLE = re.compile("[^\n\x20-\x7e\xa0-\u2027\u202a-\ud7ff\ue000-\ufefe\uff00-\ufffd\U00010000-\U0010ffff]")
 _PLAIN = re.compile(r"(?:[^-?:,\[\]{}#&*!|>'\"%@` ]|[-?:](?! |\Z))(?:(?!: | #|:\Z| \Z).)*")
-_NULLS = ("", "~", "null", "Null", "NULL")
 # The columns of the key with what follows it, and how much farther in than the key a block is.
 _KEY = len("expr: ")
 _STEP = 2
@@ -155,12 +155,17 @@ def _unescape(text: PlacedText, source: str, at: int, end: int) -> int:
 def _block_of(scalar: Scalar, value: str) -> Optional[PlacedText]:
     """What a block says whose lines have the indentation with which its first line is that of the value; nothing where there is none."""
     header = _HEADER.match(scalar.source, scalar.start)
+    assert header
+    written = _first_blanks(scalar.source[start:stop] for start, stop in _lines(scalar))
+    indent = written - _first_blanks(found[1] for found in _LINE.finditer(value)) if written else 1
+    return _block(scalar, indent, _chomping(header)) if indent > 0 else None
+
+
+def _lines(scalar: Scalar) -> Iterator[Tuple[int, int]]:
+    """The lines of a block below its sign, without their ends."""
     first = _LINE.match(scalar.source, scalar.start)
-    assert header and first
-    lines = [found.span(1) for found in _LINE.finditer(scalar.source, first.end(), scalar.end) if found[0]]
-    written = _first_blanks(scalar.source[slice(*span)] for span in lines)
-    indent = written - _first_blanks(value.split("\n")) if written else 1
-    return _block(scalar, lines, indent, _chomping(header)) if indent > 0 else None
+    assert first
+    return (found.span(1) for found in _LINE.finditer(scalar.source, first.end(), scalar.end) if found[0])
 
 
 def _first_blanks(lines: Iterable[str]) -> int:
@@ -172,11 +177,11 @@ def _chomping(header: Match[str]) -> str:
     return header[1].strip("123456789")
 
 
-def _block(scalar: Scalar, lines: List[Tuple[int, int]], indent: int, chomping: str) -> PlacedText:
+def _block(scalar: Scalar, indent: int, chomping: str) -> PlacedText:
     """What a block of this indentation says."""
     text, before = PlacedText(), " "
     breaks: List[int] = []
-    for start, stop in lines:
+    for start, stop in _lines(scalar):
         content = scalar.source[start + indent : stop]
         if content:
             folds = scalar.style == ">" and before not in " \t" and content[0] not in " \t"
@@ -191,7 +196,7 @@ def _block(scalar: Scalar, lines: List[Tuple[int, int]], indent: int, chomping: 
 
 def _is_plain(text: str, in_flow: bool) -> bool:
     """Whether a text of one line may be a plain scalar."""
-    if text in _NULLS or (in_flow and re.search(r"[,:?\[\]{}]", text)):
+    if text in NULLS or (in_flow and re.search(r"[,:?\[\]{}]", text)):
         return False
     return bool(_PLAIN.fullmatch(text))
 

@@ -16,16 +16,17 @@ from functools import lru_cache
 from typing import Any, Callable, Dict, Iterator, List, NamedTuple, Optional, Tuple
 
 from . import limits, set_limits
-from .checked_queries import MOST_FILE_PATTERNS, forget_verdicts
+from .checked_queries import FileBounds, forget_verdicts
 from .files import FileError
 from .messages import SEVERITIES
 from .options import MOST, PEOPLE, STYLES, WIDTH
 from .targets import Target
 
 _NAMES = (".promql.toml", "pyproject.toml")
+# (the readers of TOML take a time that grows with the square of the parts of a key)
+_MOST_CHARACTERS, _LONGEST_LINE = 65_536, 4_096
 # What a pyproject.toml with settings has; others need no reader of TOML.
-_SECTION = re.compile(r"^\s*\[\s*tool\s*(?:\]|\.\s*[\"']?promql\b)", re.M)
-_LIMITS = tuple(limits())
+_SECTION = re.compile(r"^[^\S\n]*\[\s*tool\s*(?:\]|\.\s*[\"']?promql\b)", re.M)
 # The limits of a query without settings.
 _UNSET = limits()
 Table = Dict[str, Any]
@@ -57,7 +58,7 @@ _KEYS: Dict[str, Dict[str, Tuple[Callable[[Any], bool], str]]] = {
         "limits": (lambda value: isinstance(value, dict), "a table"),
         "paths": (lambda value: isinstance(value, list) and all(isinstance(it, dict) for it in value), "a list of tables"),
     },
-    "limits": {**{name.replace("_", "-"): _NUMBER for name in _LIMITS}, "max-file-patterns": _NUMBER},
+    "limits": {name.replace("_", "-"): _NUMBER for name in (*limits(), *FileBounds._fields)},
     "paths": {"files": _TEXTS, "ignore": _TEXTS, "add": _TEXTS},
 }
 
@@ -99,7 +100,7 @@ def with_settings(arguments: argparse.Namespace, target: Target) -> Tuple[argpar
     bounds = {key.replace("-", "_"): value for key, value in table.get("limits", {}).items()}
     bounds.update({name: vars(arguments)[name] for name in _LIMITS if vars(arguments).get(name) is not None})
     defaults = {
-        "max_file_patterns": bounds.pop("max_file_patterns", MOST_FILE_PATTERNS),
+        **{name: bounds.pop(name, most) for name, most in FileBounds()._asdict().items()},
         "fail_on": table.get("fail-on"),
         "width": table.get("width", WIDTH),
         "style": table.get("style", PEOPLE),
@@ -158,11 +159,13 @@ def _read(path: str) -> TeamSettings:
     """The settings of a file; none where it is a pyproject.toml without them."""
     try:
         with open(path, encoding="utf-8-sig") as file:
-            text = file.read()
+            text = file.read(_MOST_CHARACTERS + 1)
     except OSError as error:
         raise FileError(f"{path}: {error.strerror}") from error
     except UnicodeDecodeError as error:
         raise FileError(f"{path}: not UTF-8 at byte {error.start}") from error
+    if len(text) > _MOST_CHARACTERS or any(len(line) > _LONGEST_LINE for line in text.splitlines()):
+        raise FileError(f"{path}: settings have at most {_MOST_CHARACTERS:,} characters, and {_LONGEST_LINE:,} in a line")
     is_project = os.path.basename(path) == "pyproject.toml"
     if is_project and not _SECTION.search(text):
         return TeamSettings()

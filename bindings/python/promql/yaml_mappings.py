@@ -35,7 +35,7 @@ class Mappings:
 
     def entry(self, mapping: Node, key: str) -> Optional[Entry]:
         """The node of a key and that of its value, which may come from a mapping that is merged into this one."""
-        if mapping.kind != "mapping":
+        if mapping.kind != "mapping" or not mapping.value:
             return None
         own = self._read.get(id(mapping)) or self._own(mapping)
         found = own.entries.get(key)

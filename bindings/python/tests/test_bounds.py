@@ -11,12 +11,13 @@ import promql
 from command_line import run
 from dear_queries import DEAR_QUERIES
 from promql import checked_queries
-from promql.checked_queries import QueryChecker, pattern_size
+from promql.checked_queries import Budget, FileBounds, QueryChecker, pattern_size
 from promql.dashboards import Dashboard
 from promql.files import Fault, Source
 from promql.line_index import LineIndex
-from promql.lint import fix, fixes, lint
+from promql.lint import fix, fixes, known_looks, lint
 from promql.lint.file_findings import MOST_FINDINGS
+from promql.lsp.rules import problems_of
 from promql.rule_files import RuleFile
 
 try:
@@ -77,7 +78,7 @@ class Patterns(unittest.TestCase):
         self.assertEqual(promql.limits(), limits)
 
     def test_budget(self):
-        checker = QueryChecker(20)
+        checker = QueryChecker(FileBounds(max_file_patterns=20))
         self.assertTrue(checker.admits('{a=~"b"}'))
         self.assertTrue(checker.admits('{a=~"b"}'))
         self.assertTrue(checker.admits('{a=~"c"}'))
@@ -86,7 +87,7 @@ class Patterns(unittest.TestCase):
         self.assertFalse(checker.admits('{a=~""}'))
         self.assertTrue(checker.admits('{a=~"c"}') and checker.admits("up"))
         # (patterns that the library does not compile count for nothing)
-        self.assertTrue(QueryChecker(20).admits('{a=~"' + "x{900}" * 40 + '"}'))
+        self.assertTrue(QueryChecker(FileBounds(max_file_patterns=20)).admits('{a=~"' + "x{900}" * 40 + '"}'))
 
     def test_once(self):
         """A text is asked about once in a run."""
@@ -106,7 +107,7 @@ class Patterns(unittest.TestCase):
         """What was expected is said as long as it is not too dear: each time that a query is read for it counts."""
         dear = "{" + ",".join(f'l{number}=~"(?i)\\\\pL"' for number in range(25)) + "} b"
         board = Dashboard(Source("a.json", json.dumps({"targets": [{"expr": dear}] * 9}), ""))
-        faults = QueryChecker(2 * pattern_size(dear)).faults(board.queries)
+        faults = QueryChecker(FileBounds(2 * pattern_size(dear))).faults(board.queries)
         told = [fault.message.startswith("unexpected identifier") for fault in faults]
         self.assertEqual(told, [True] * 2 + [False] * 7)
         self.assertEqual(faults[-1].message, "invalid promql query")
@@ -233,6 +234,123 @@ class Findings(unittest.TestCase):
         self.assertTrue(queries[0] and queries[-1] is None and fixes_found[-1]["edits"])
 
 
+class LargeFiles(unittest.TestCase):
+    """What is said of a file that has more than is looked at, by each command, and with which status."""
+
+    def ran(self, name, text, *options):
+        with TemporaryDirectory() as folder:
+            path = Path(folder, name)
+            path.write_text(text)
+            begin = time.process_time()
+            ran = run(*options, path)
+            self.assertLess(time.process_time() - begin, SECONDS)
+            return ran
+
+    def assert_refused(self, name, text, said, *options):
+        for command in (["check"], ["lint"], ["lint", "--fix"], ["format", "--check"]):
+            with self.subTest(command=command):
+                ran = self.ran(name, text, *command, *options)
+                self.assertEqual((ran.status, ran.out), (2, ""))
+                self.assertIn(said, ran.err)
+
+    def test_nodes(self):
+        """Nodes are keys, values and aliases, lists and mappings; of JSON the keys are none."""
+        text = RULE + "  - {record: a, expr: b}\n" * 3
+        said = ":6:14: not looked at: the file has more than 20 nodes of YAML, up to here (--max-file-nodes)\n  - {record: a, expr: b}\n"
+        self.assert_refused("a.yml", text, said, "--max-file-nodes=20")
+        self.assertEqual(self.ran("a.yml", text, "check", "--max-file-nodes=23").status, 0)
+        text = json.dumps({"targets": [{"expr": "up"}, {"expr": "up"}]})
+        said = ":1:39: not looked at: the file has more than 5 values of JSON, up to here (--max-file-nodes)\n"
+        self.assert_refused("a.json", text, said, "--max-file-nodes=5")
+        self.assertEqual(self.ran("a.json", text, "check", "--max-file-nodes=6").status, 0)
+        for text in ("[" + "a," * 200_000 + "]", "- {}\n" * 150_000, "---\n" * 200_000):
+            self.assert_refused("a.yml", text, "more than 50,000 nodes of YAML")
+
+    def test_nodes_in_the_editor(self):
+        rules, problems = problems_of(RULE + "  - {record: a, expr: b}\n" * 20_000)
+        self.assertEqual((rules, [(it.start > 200_000, it.message[:13]) for it in problems]), (None, [(True, "not looked at")]))
+
+    def test_exact_yaml(self):
+        """What libyaml does not read, or not surely so, is read by ruamel.yaml, as far as that goes."""
+        text = RULE + "  - {record: a, expr: b}\n" * 10
+        bound = "ruamel.yaml reads at most 200 characters of a file (--max-exact-yaml)\n"
+        said = f":14:1: not looked at: libyaml may read this otherwise, and {bound}...\n^"
+        self.assert_refused("a.yml", text + "...\n", said, "--max-exact-yaml=200")
+        said = f"not looked at: not YAML to libyaml: did not find expected key, and {bound}"
+        self.assert_refused("a.yml", text + "]\n", said, "--max-exact-yaml=200")
+        self.assertEqual(self.ran("a.yml", text + "...\n", "check").status, 0)
+        # (a file that is laid out is read again)
+        text = text.replace("expr: b", "expr: b+b")
+        self.assertIn("left as it is", self.ran("a.yml", text + "...\n", "format", "--max-exact-yaml=2000").err)
+        self.assertEqual(self.ran("a.yml", text + "...\n", "format", "--check", "--max-exact-yaml=4000").status, 1)
+
+    def test_levels(self):
+        self.assert_refused("a.yml", "[" * 100_000, "nested too deeply")
+        self.assert_refused("a.json", '{"expr": ' + "[" * 101 + "]" * 101 + "}", "nested too deeply")
+
+    def test_linted(self):
+        """A query counts by its tokens but those of punctuation, and by four more; one that was looked at in the run counts nothing."""
+        text = RULE + "".join(f"  - {{record: a, expr: (a{number})}}\n" for number in range(4)) + "  - {record: b, expr: (a0)}\n"
+        for status, count in ((2, 17), (1, 24)):
+            with mock.patch.object(known_looks.LOOKS, "_known", {}):
+                ran = self.ran("a.yml", text, "lint", f"--max-lint-tokens={count}")
+            self.assertEqual((ran.status, ran.out.count(" P601: ")), (status, 5 if status == 1 else 2))
+            self.assertEqual(":6:23: not looked at from here on: the queries of the file have more than 17 tokens" in ran.err, status == 2)
+        with mock.patch.object(known_looks.LOOKS, "_known", {}):
+            ran = self.ran("a.yml", text, "lint", "--fix", "--max-lint-tokens=30")
+        # (the first one is looked at three times for its fix)
+        self.assertEqual((ran.status, ran.out.count(" P601: ")), (1, 4))
+        budget = Budget(5)
+        self.assertEqual([budget.takes(amount) for amount in (5, 0, 1, 0)], [True, True, False, False])
+
+    def test_listed(self):
+        """So many errors, warnings and skipped queries of a file are named."""
+        ran = self.ran("a.yml", "groups:\n" + "- {}\n" * 10_000, "check")
+        self.assertEqual((ran.status, ran.err.count("a group without `name`")), (1, 5_000))
+        self.assertIn(":5002:3: 5,000 more errors from here on are not listed\n", ran.err)
+        ran = self.ran("a.yml", RULE + "  - {record: a, expr: b}\n" * 9_000, "check")
+        self.assertEqual((ran.status, ran.err.count("is there before")), (0, 5_000))
+        self.assertIn(":5005:5: warning: 3,999 more warnings from here on are not listed\n", ran.err)
+        targets = [{"expr": "a", "datasource": {"type": "loki"}}] * 7_000
+        ran = self.ran("a.json", json.dumps({"targets": targets}), "check")
+        self.assertEqual((ran.status, ran.err.count("skipped: ")), (0, 5_000))
+        self.assertIn("its data source is of the type loki; so are 2,000 more\n", ran.err)
+
+    def test_variables(self):
+        text = json.dumps({"targets": [{"expr": f"a{number}[$b]"} for number in range(10_001)]})
+        self.assert_refused("a.json", text, "not looked at: the queries of the file have more than 10,000 variables of Grafana, up to here")
+
+    def test_templates(self):
+        rules = "".join(f"  - {{alert: a{n}, expr: b, annotations: {{c: '{{{{ print {n} {'1 ' * 40}}}}}'}}}}\n" for n in range(1_200))
+        ran = self.ran("a.yml", RULE + rules, "check")
+        self.assertEqual((ran.status, ran.err.count("not looked at")), (1, 1))
+        self.assertIn("not looked at from here on: the templates of the file have more than 100,000 characters in braces\n", ran.err)
+
+    def test_messages(self):
+        """A long text of a query is cut off in the messages about it."""
+        (found,) = [it for it in lint('{l="' + "a" * 20_000 + '",l!="b"}') if it.code == "P109"]
+        self.assertEqual((len(found.message), found.message[-2:]), (501, "a…"))
+
+    def test_folders(self):
+        """A file of a folder that has too much is one with an error, if it may have a query; many lines may come before an error."""
+        for text, status in (("[" + "a," * 60_000 + "]", 3), ("[" + "a," * 60_000 + "{expr: a}]", 2), ('["\\x65",' + "a," * 60_000 + "]", 2)):
+            with TemporaryDirectory() as folder:
+                Path(folder, "a.yml").write_text(text)
+                Path(folder, "b.yml").write_text("\n" * 150_000 + "}")
+                begin = time.process_time()
+                self.assertEqual(run("check", folder).status, status)
+                self.assertLess(time.process_time() - begin, SECONDS)
+
+    def test_settings(self):
+        for text in ("# a\n" * 20_000, "a" + ".a" * 5_000 + " = 1\n", "[tool.promql]\nignore = ['P1']\n" + "#" * 70_000):
+            with TemporaryDirectory() as folder:
+                Path(folder, ".promql.toml").write_text(text)
+                Path(folder, "a.yml").write_text("groups: []\n")
+                ran = run("check", Path(folder, "a.yml"))
+                self.assertEqual(ran.status, 2)
+                self.assertIn(".promql.toml: settings have at most 65,536 characters, and 4,096 in a line\n", ran.err)
+
+
 class Scalars(unittest.TestCase):
     def query(self, text):
         begin = time.process_time()
@@ -250,12 +368,15 @@ class Scalars(unittest.TestCase):
     def test_blanks(self):
         """Lines of a block that are far in, of which the first blanks are its indentation."""
         query = self.query("  - record: a\n    expr: |1\n" + (" " * 2_000 + "up\n") * 300)
-        self.assertEqual((query.text[:1_997], query.offsets[0]), (" " * 1_995 + "up", len(RULE) + 32))
+        offsets = query.spelling.offsets(query.value)
+        self.assertEqual((query.text[:1_997], offsets[0]), (" " * 1_995 + "up", len(RULE) + 32))
 
     def test_parts(self):
         """A text of many parts."""
         for text in ("'" + "''" * 300_000 + "'", '"' + "\\u0061" * 150_000 + '"', "'" + "a\n\n" * 150_000 + "'"):
             query = self.query(f"  - record: a\n    expr: {text}\n")
+            offsets = query.spelling.offsets(query.value)
+            self.assertEqual((offsets[0], len(offsets)), (len(RULE) + 25, len(query.value) + 1))
             self.assertEqual((query.offsets[0], len(query.offsets)), (len(RULE) + 25, len(query.value) + 1))
 
 

@@ -37,6 +37,7 @@ __all__ = [
 # The modules whose functions are the rules of the table.
 _MODULES = (matcher_rules, counter_rules, operator_rules, label_rules, alert_rules, style_rules)
 _UNCOMPARED = "its patterns and values are too large together to be compared: P108 and P109 are not looked for in patterns"
+_LONGEST = 500
 # Functions that are gone, and what is there for them.
 _GONE = {
     "holt_winters": "it is `double_exponential_smoothing` since Prometheus 3.0",
@@ -129,7 +130,9 @@ def found_in(
     for rule in selection.rules():
         if not ignored.has(rule.code):
             for remark in rule.look(subject):
-                yield Finding(remark.span, rule.code, remark.message, rule.severity, remark.fix)
+                # (a text of the query may make each of many messages long)
+                message = remark.message[:_LONGEST] + "…" * (len(remark.message) > _LONGEST)
+                yield Finding(remark.span, rule.code, message, rule.severity, remark.fix)
 
 
 def _rejected(error: promql.QueryError, message: str) -> Finding:

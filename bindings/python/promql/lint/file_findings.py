@@ -21,7 +21,7 @@ from .comments import Ignored, codes_of, silenced_in
 from .findings import Finding, Fix, Severity, Span, TextEdit, Tree
 from .fixes import all_fixed, edited_query
 from .given_queries import GivenQuery
-from .known_looks import LOOKS, KnownLooks
+from .known_looks import LOOKS, KnownLooks, UnseenError, take
 from .rule_places import MOST_INTERVALS, RulePlace, rules_of
 from .silence import Comment, Silences
 from .subject import IsWritten, RuleContext, always
@@ -70,7 +70,10 @@ class FileLinter:
         self._silenced_codes: Dict[int, Set[str]] = {}
         self._unused: List[Comment] = []
         self._fixed_length = 0
+        self._budget = document.checker.lint_tokens
         self._reads = _MOST_READS
+        # The document that a text with fixes was read as.
+        self.fixed_document = document
         self._rules: Dict[int, List[RulePlace]] = {}
         if isinstance(document, RuleFile):
             self._take_rules(document)
@@ -103,6 +106,10 @@ class FileLinter:
                 found += [self._placed(query, it) for it in self._look_at_query(query)]
             except RecursionError:
                 self.left.append(query.whole("not looked at: nested too deeply for the linter"))
+            except UnseenError:
+                message = f"not looked at from here on: the queries of the file have more than {self._budget.most:,} tokens together"
+                self.left.append(query.whole(f"{message} (--max-lint-tokens)"))
+                break
             except ValueError as error:
                 self.left.append(checker.rejected(query, error))
         self.left += checker.left(left)
@@ -136,6 +143,8 @@ class FileLinter:
 
     def _look_at_comments(self, query: Query, contexts: Sequence[RuleContext]) -> None:
         """Looks at the comments of a query: what is found without them, and which of them silence nothing of that."""
+        for _ in contexts:
+            take(query.text, self._budget)
         is_written, tree = self._is_written(query), promql.parse(query.text)
         found = (found_in(query.text, tree, self._selection, context, is_written, Ignored()) for context in contexts)
         codes = {finding.code for findings in found for finding in findings}
@@ -160,7 +169,7 @@ class FileLinter:
     def _look(self, query: Query, context: RuleContext) -> List[Finding]:
         """What is found in a query for one rule that has it."""
         is_written, explains = self._is_written(query), self._document.checker.explains
-        return self._looks.look_at(query.text, self._selection, context, is_written, self._has_fixes, explains)
+        return self._looks.look_at(query.text, self._selection, context, is_written, self._has_fixes, explains, self._budget)
 
     def _contexts(self, query: Query) -> List[Tuple[RuleContext, Ignored]]:
         """The rules that have a query and differ to the linter, and what comments silence there."""
@@ -265,6 +274,7 @@ class FileLinter:
             return None
 
         def look(text: str, tree: Tree) -> List[Finding]:
+            take(text, self._budget)
             # (what a fix changes is in all rules that have the query)
             context, _ = contexts[0]
             found = found_in(text, tree, self._selection, context, self._is_written(query))
@@ -272,7 +282,7 @@ class FileLinter:
 
         try:
             text = all_fixed(query.text, look)
-        except (RecursionError, ValueError):
+        except (RecursionError, ValueError, UnseenError):
             # (as is told by `findings`)
             return None
         return (query, text) if text != query.text else None
@@ -281,7 +291,7 @@ class FileLinter:
         """Whether a finding of a query has a fix, so that there is one to make."""
         try:
             found = self._look(query, contexts[0][0])
-        except (RecursionError, ValueError):
+        except (RecursionError, ValueError, UnseenError):
             return False
         return any(finding.fix for finding in found)
 
@@ -297,7 +307,8 @@ class FileLinter:
         """Whether a text of the file is read as these queries, and all else in it as before."""
         source = replace(self._document.source, text=text)
         try:
-            read = [query.text for query in _read_again(self._document, source).queries]
+            self.fixed_document = _read_again(self._document, source)
+            read = [query.text for query in self.fixed_document.queries]
             return read == list(queries) and self._document.same(text, lambda old, new: True)
         except FileError:
             return False
@@ -305,11 +316,12 @@ class FileLinter:
 
 def _read_again(document: Document, source: Source) -> Document:
     """The document of this kind that another text is."""
+    checker = document.checker.anew()
     if isinstance(document, RuleFile):
-        return RuleFile(source)
+        return RuleFile(source, checker)
     if isinstance(document, Dashboard):
-        return Dashboard(source, checker=document.checker.anew())
-    return GivenQuery(source)
+        return Dashboard(source, checker=checker)
+    return GivenQuery(source, checker)
 
 
 def _with_variables(query: Query, text: str) -> str:
@@ -333,9 +345,3 @@ def fault_of(found: FileFinding) -> Fault:
     finding = found.finding
     hint = " (--fix)" if finding.fix else ""
     return Fault(found.start, found.end, f"{finding.severity.value} {finding.code}: {finding.message}{hint}")
-
-
-def place_of(source: Source, offset: int) -> Tuple[int, int]:
-    """The line and the column of a character, from 1."""
-    return source.lines.place(offset)
-

@@ -26,9 +26,9 @@ class GivenQuery:
 
     is_known = True
 
-    def __init__(self, source: Source) -> None:
+    def __init__(self, source: Source, checker: QueryChecker) -> None:
         self.source = source
-        self.checker = QueryChecker()
+        self.checker = checker
         self.faults: List[Fault] = []
         self.notes: List[Fault] = []
         self.unread: List[Fault] = []

@@ -6,6 +6,8 @@ from typing import Any, Callable, Dict, List, Mapping, Tuple
 
 import promql
 
+from ..checked_queries import Budget
+from ..token_texts import tokens_of
 from . import look_at
 from .findings import Finding
 from .subject import IsWritten, RuleContext, always
@@ -13,6 +15,21 @@ from .table import Selection
 
 # Characters of the queries of which is known what was found in them, with so many more for each finding.
 _MOST_KEPT, _FINDING = 8_388_608, 500
+
+
+# What a query costs beside its tokens.
+_QUERY = 4
+
+
+class UnseenError(Exception):
+    """A query is not looked at, since those of its file are too large together."""
+
+
+def take(query: str, budget: Budget) -> None:
+    """Takes the tokens of a query away from what may be looked at. (Of punctuation only an opening parenthesis begins anything.)"""
+    # (where nothing is left no query is read for that)
+    if not budget.takes(_QUERY) or not budget.takes(sum(it.kind != "punctuation" or it.text == "(" for it in tokens_of(query))):
+        raise UnseenError
 
 
 class KnownLooks:
@@ -31,15 +48,18 @@ class KnownLooks:
         is_written: IsWritten,
         has_fixes: bool,
         explains: Callable[[promql.QueryError], bool],
+        budget: Budget,
     ) -> List[Finding]:
-        """As `look_at` of the linter does. The changes that a fix means to the tree are not kept."""
+        """As `look_at` of the linter does, as far as the budget goes. The changes that a fix means to the tree are not kept."""
         if is_written is not always:
             # (what stands for a variable may be another variable elsewhere)
+            take(query, budget)
             return look_at(query, selection, context, is_written, has_fixes, explains)
         if context.recorded is not self._recorded:
             self._forget(context.recorded)
         key = (query, selection, has_fixes, *context.key)
         if key not in self._known:
+            take(query, budget)
             found = [_without_changes(it) for it in look_at(query, selection, context, is_written, has_fixes, explains)]
             self._kept += len(query) + _FINDING * (1 + len(found))
             if self._kept > _MOST_KEPT:

@@ -52,7 +52,7 @@ class Places:
             self._firsts[tokens[number].start] = first
 
     def of(self, node: Tree) -> NodePlace:
-        """The place of a node."""
+        """The place of a node, which is found once."""
         if id(node) not in self._found:
             self._found[id(node)] = self._place(node, *self._read[id(node)])
         return self._found[id(node)]

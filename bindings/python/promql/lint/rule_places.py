@@ -5,6 +5,7 @@ from __future__ import annotations
 import re
 from typing import Dict, FrozenSet, Iterable, Iterator, List, NamedTuple, Optional, Set, Tuple
 
+from ..rule_checks import DURATION, MILLISECONDS, mappings_in
 from ..rule_documents import Kind
 from ..rule_files import RuleFile
 from ..yaml_mappings import Mappings
@@ -14,12 +15,10 @@ from .subject import RuleContext
 _LABEL = re.compile(r"\$labels\.([A-Za-z_]\w*)", re.ASCII)
 # What asks whether there is such a label, before it.
 _QUESTION = re.compile(r"\b(?:if|with|and|or|not)\b")
-_DURATION = re.compile(r"(?:(\d+)y)?(?:(\d+)w)?(?:(\d+)d)?(?:(\d+)h)?(?:(\d+)m)?(?:(\d+)s)?(?:(\d+)ms)?", re.ASCII)
 _LONGEST_DURATION = 100
 # Aliases may put a rule into groups of so many intervals.
 MOST_INTERVALS = 8
 _MOST_LABELS = 50
-_MILLISECONDS = (31_536_000_000, 604_800_000, 86_400_000, 3_600_000, 60_000, 1_000, 1)
 
 
 class RulePlace(NamedTuple):
@@ -88,7 +87,7 @@ class _Reader:
             if not items or (id(items), interval) in lists:
                 continue
             lists.add((id(items), interval))
-            for rule in _items(self._mappings, group, "rules"):
+            for rule in mappings_in(items):
                 found = intervals.setdefault(id(rule), set())
                 if interval in found:
                     continue
@@ -130,15 +129,10 @@ class _Reader:
         return self._named[id(owner)]
 
 
-def _items(mappings: Mappings, owner: Node, key: str) -> Iterator[Node]:
-    items = mappings.value(owner, key)
-    return (item for item in items.value if item.kind == "mapping") if items and items.kind == "sequence" else iter(())
-
-
 def _interval(text: str) -> Optional[int]:
     """How often a group is evaluated, in milliseconds, by its text."""
-    found = _DURATION.fullmatch(text) if len(text) <= _LONGEST_DURATION else None
-    parts = [int(count or 0) * unit for count, unit in zip(found.groups(), _MILLISECONDS)] if found else []
+    found = DURATION.fullmatch(text) if len(text) <= _LONGEST_DURATION else None
+    parts = [int(count or 0) * unit for count, unit in zip(found.groups(), MILLISECONDS)] if found else []
     return sum(parts) or None
 
 

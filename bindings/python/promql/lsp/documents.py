@@ -124,14 +124,6 @@ class Document:
     def _is_after(self, query: PlacedQuery, offset: int) -> bool:
         return query.end <= offset <= query.end + _blanks(self.text, query.end)
 
-    def record_at(self, offset: int) -> str:
-        """The name that a rule records, at its place."""
-        number = bisect_right([rule.start for rule in self.rules], offset) - 1
-        for rule in self.rules[max(number, 0) : number + 1]:
-            if rule.record and rule.record_start <= offset <= rule.record_end:
-                return rule.record
-        return ""
-
     def range_in(self, query: PlacedQuery, start: int, end: int) -> Range:
         """The range of a part of a query."""
         return self.lines.range(*query.span(start, end))

@@ -9,7 +9,9 @@ from typing import Iterable, Iterator, List, NamedTuple, Optional, Sequence, Tup
 
 import promql
 
+from ..documents import GROUPS
 from ..files import Fault, FileError, Source
+from ..messages import listed
 from ..queries import Query
 from ..rule_files import RuleFile
 from ..yaml_nodes import Node
@@ -19,8 +21,6 @@ from .problems import ERROR, WARNING, Problem
 from .roles import roles_of
 
 NAME = "document"
-_GROUPS = re.compile(r"^\s*groups:", re.M)
-_PLACE = re.compile(rf"{NAME}:(\d+):(\d+): ([^\n]*)")
 _MOST_NODES = 10_000
 # Lines that are longer are not read by themselves.
 _LONGEST_LINES = 16_384
@@ -214,32 +214,21 @@ def problems_of(text: str, lints: bool = False) -> Tuple[Optional[List[Rule]], L
     except RecursionError:
         return None, [Problem(0, 0, ERROR, "nested too deeply")]
     except FileError as error:
-        return None, [_unread(text, str(error))] if _GROUPS.search(text) else []
+        return None, [Problem(*(error.span or (0, 0)), ERROR, error.reason)] if GROUPS.search(text) else []
     if not file.is_known:
         return rules_of(file), []
-    found = _problems(file.checker.faults(file.queries), ERROR)
-    faults = list(file.faults)
+    faults = file.checker.faults(file.queries) + file.faults
     warnings: List[Fault] = []
     try:
         others, warnings = file.checks()
         faults += others
     except (FileError, RecursionError) as error:
         faults.append(Fault(0, 0, str(error)))
-    found += _problems({*faults}, ERROR)
-    found += _problems({*warnings}, WARNING)
+    found = _problems(listed({*faults}, "errors"), ERROR)
+    found += _problems(listed({*warnings}, "warnings"), WARNING)
     found += lint_problems_of_file(file) if lints else []
     return rules_of(file), sorted(found)
 
 
 def _problems(faults: Iterable[Fault], severity: int) -> List[Problem]:
     return [Problem(fault.start, fault.end, severity, fault.message) for fault in faults]
-
-
-def _unread(text: str, message: str) -> Problem:
-    """The problem of a text that is not YAML, at the place that the message has."""
-    place = _PLACE.match(message)
-    if not place:
-        return Problem(0, 0, ERROR, message.partition("\n")[0])
-    begins = [0, *(found.end() for found in _LINE_BEGINS.finditer(text))]
-    offset = begins[min(int(place[1]), len(begins)) - 1] + int(place[2]) - 1
-    return Problem(offset, offset, ERROR, place[3])
