@@ -33,7 +33,7 @@ MATCHER = 'tenant="a"'
 # promql has no limits, is held against what a part of it takes on the same machine.)
 SECONDS, MEMORY = 10, 512
 TOO_DEEP, UNCLOSED = "expression nested too deeply", "unclosed left parenthesis"
-# What promql_check and the page say in place of TOO_DEEP.
+# What the program and the page say in place of TOO_DEEP.
 TOO_MANY_LEVELS = "more than 512 levels: "
 TOO_LARGE, TOO_LONG = "patterns are too large", "query is too long"
 
@@ -148,24 +148,32 @@ REJECTED = {
 }
 
 
+PROMQL = DIST / "promql"
+# The subcommands that read one query, with their words.
+SUBCOMMANDS = (("line",), ("pretty",), ("json",), ("enforce", MATCHER), ("check",))
+
+
+def without_place(ran):
+    """The end of a subcommand, whose message of a rejected query begins with the place."""
+    return ran._replace(err=ran.err.partition(": ")[2] if ran.status in (4, 14) else ran.err)
+
+
 def program_runs(query, **bounds):
-    """The ends of each program on this query, by their names, without the place that promql_check shows."""
-    yield from ((f"promql {mode}", run([DIST / "promql", mode], query, **bounds)) for mode in ("line", "pretty", "json"))
-    yield "promql_enforce", run([DIST / "promql_enforce", MATCHER], query, **bounds)
-    ran = run([DIST / "promql_check"], query, **bounds)
-    yield "promql_check", ran._replace(err=ran.err.partition(": ")[2] if ran.status == 4 else ran.err)
+    """The ends of each subcommand on this query, by their names, without the place of the error."""
+    for words in SUBCOMMANDS:
+        yield words[0], without_place(run([PROMQL, *words], query, **bounds))
     for request in (query, {"query": query, "enforce": MATCHER}):
-        ran = run([DIST / "promql_batch", "line"], json.dumps(request) + "\n", **bounds)
+        ran = run([PROMQL, "batch", "line"], json.dumps(request) + "\n", **bounds)
         answer = json.loads(ran.out) if ran.status in (0, 4) else {}
-        yield "promql_batch", Ran(answer.get("code", ran.status), ran.out, answer.get("error", ran.err))
+        yield "batch", Ran(answer.get("code", ran.status), ran.out, answer.get("error", ran.err))
 
 
 def knows_limits():
-    """Whether the programs know a limit on patterns."""
-    return any("--max-patterns" in run([DIST / name, "--help"]).out for name in ("promql_check", "promql_enforce", "promql_batch"))
+    """Whether the program knows a limit on patterns."""
+    return "--max-patterns" in run([PROMQL, "check", "--help"]).out
 
 
-# Those that all programs but promql reject before they read them.
+# Those that all subcommands but `line`, `pretty` and `json` reject before they read them.
 OVER_LIMITS = {
     "16,000 groups": TOO_LARGE,
     "16,000 classes": TOO_LARGE,
@@ -183,10 +191,10 @@ OVER_LIMITS = {
 def attack_by_queries():
     for name, (query, status, message) in QUERIES.items():
         for program, ran in program_runs(query):
-            if name in OVER_LIMITS and program.startswith("promql_"):
+            if name in OVER_LIMITS and program in ("enforce", "check", "batch"):
                 is_so = ran.status == 14 and OVER_LIMITS[name] in ran.err
             else:
-                said = TOO_MANY_LEVELS if message == TOO_DEEP and program == "promql_check" else message
+                said = TOO_MANY_LEVELS if message == TOO_DEEP and program != "batch" else message
                 is_so = ran.status == status and ran.err.startswith(said)
             check(f"{name}, {program}", is_so, (ran.status, ran.err))
     attack_by_rejected_queries()
@@ -197,18 +205,18 @@ def attack_by_queries():
 
 
 def attack_by_rejected_queries():
-    """Each says what was expected, in promql_check, in a batch and in the library, which a process calls."""
+    """Each says what was expected, in a check, in a batch and in the library, which a process calls."""
     explain = [sys.executable, "-c", EXPLAINING]
     for name, (query, expected, seconds) in REJECTED.items():
         for words, given in (
-            ([DIST / "promql_check"], query),
-            ([DIST / "promql_batch", "line"], json.dumps(query) + "\n"),
+            ([PROMQL, "check"], query),
+            ([PROMQL, "batch", "line"], json.dumps(query) + "\n"),
             (explain, query),
         ):
             ran = run(words, given, seconds=math.ceil(seconds))
-            told = json.dumps(expected)[1:-1] if words[0] == DIST / "promql_batch" else expected
+            told = json.dumps(expected)[1:-1] if words[1] == "batch" else expected
             is_so = ran.status == 4 and told in ran.out + ran.err and ran.seconds < seconds + (0.2 if words is explain else 0)
-            check(f"{name}, {Path(words[0]).name}", is_so, (ran.status, ran.out[-300:], ran.err[-300:], ran.seconds))
+            check(f"{name}, {Path(words[0]).name} {words[1]}", is_so, (ran.status, ran.out[-300:], ran.err[-300:], ran.seconds))
 
 
 def attack_by_patterns():
@@ -285,7 +293,7 @@ def attack_by_trees():
 
 # ---- stacks
 
-# A process that has the library explain the query on its standard input, and ends as promql_check does.
+# A process that has the library explain the query on its standard input, and ends as a check does.
 EXPLAINING = """
 import sys, promql
 try:
@@ -328,7 +336,8 @@ def attack_by_stacks():
 
 # ---- outputs
 
-# What a shell does with the streams of a program, and the status of promql, of others with an output, and of promql_check, which has none.
+# What a shell does with the streams of a program, and the status of `line`, of other subcommands with an output, and of `check`, which has
+# none.
 STREAMS = {
     "<&-": (2, 2, 2),
     ">&-": (5, 5, 0),
@@ -340,16 +349,15 @@ STREAMS = {
 
 
 def attack_outputs():
-    """Programs without an input, with outputs that are closed or full, and before a reader that is gone."""
-    commands = (("promql", "line"), ("promql_batch", "line"), ("promql_enforce", MATCHER), ("promql_check",))
-    for program, *words in commands:
+    """Subcommands without an input, with outputs that are closed or full, and before a reader that is gone."""
+    for name, *words in (("line",), ("batch", "line"), ("enforce", MATCHER), ("check",)):
         for stream, statuses in STREAMS.items():
             # (the reader is gone before the program is given its query)
             wait = "sleep 0.2; " if "|" in stream else ""
             script = f'{{ {wait}exec "$0" "$@"; }} {stream}; exit ${{PIPESTATUS[0]}}'
-            ran = run(["bash", "-c", script, DIST / program, *words], '"1"')
-            wanted = statuses[0 if program == "promql" else 2 if program == "promql_check" else 1]
-            check(f"{program} {stream}", ran.status == wanted and (wanted != 141 or not ran.err), ran)
+            ran = run(["bash", "-c", script, PROMQL, name, *words], '"1"')
+            wanted = statuses[0 if name == "line" else 2 if name == "check" else 1]
+            check(f"{name} {stream}", ran.status == wanted and (wanted != 141 or not ran.err), ran)
 
 
 # ---- control characters
@@ -362,14 +370,14 @@ CONTROLS = {
 
 
 def attack_terminals():
-    """A report of promql_check has no character that a terminal obeys."""
+    """A report has no character that a terminal obeys."""
     for kind, characters in CONTROLS.items():
-        if characters[0] in run([DIST / "promql_check"], f"foo {characters[0]}(").err:
-            print(f"not tried: {kind}: promql_check of dist/ shows them as they are")
+        if characters[0] in run([PROMQL, "check"], f"foo {characters[0]}(").err:
+            print(f"not tried: {kind}: the program of dist/ shows them as they are")
             continue
         for it in characters:
             for query in (f"foo {it}(", f'foo{{a="{it}"}} (', f"foo{{a=~`({it}`}}", f"foo # {it}\n(", f"nosuch{it}(1)"):
-                ran = run([DIST / "promql_check"], query)
+                ran = run([PROMQL, "check"], query)
                 is_so = ran.status == 4 and it not in ran.err + ran.out
                 check(f"a report about {query!r}", is_so, (ran.status, ran.err))
 

@@ -98,7 +98,7 @@ def with_settings(arguments: argparse.Namespace, target: Target) -> Tuple[argpar
     table = settings.table
     merged = argparse.Namespace(**vars(arguments))
     bounds = {key.replace("-", "_"): value for key, value in table.get("limits", {}).items()}
-    bounds.update({name: vars(arguments)[name] for name in _LIMITS if vars(arguments).get(name) is not None})
+    bounds.update({name: vars(arguments)[name] for name in _UNSET if vars(arguments).get(name) is not None})
     defaults = {
         **{name: bounds.pop(name, most) for name, most in FileBounds()._asdict().items()},
         "fail_on": table.get("fail-on"),
