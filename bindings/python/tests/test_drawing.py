@@ -58,7 +58,7 @@ def line_of(tree, labels):
 
 def made_up_lines():
     """The queries of the rows that are accepted, with their lines of labels; without those that nest too deeply for this."""
-    for line in (ROOT / "crates" / "promql_batch" / "stdin").read_bytes().split(b"\n"):
+    for line in (ROOT / "crates" / "promql" / "stdin").read_bytes().split(b"\n"):
         try:
             query = promql.canonical(json.loads(line))
             nodes = nodes_of(promql.parse(query))
