@@ -52,7 +52,7 @@ void call_explain(const struct limits *limits, const void *query, size_t query_l
 void call_snippet(const void *query, size_t query_length, size_t start, size_t end, void *buffer, size_t buffer_size,
                   struct promql_result *result);
 void call_format(const struct limits *limits, const void *query, size_t query_length, size_t width, size_t indent_width,
-                 uint32_t keep_spelling, void *buffer, size_t buffer_size, struct promql_result *result);
+                 uint32_t spelling, void *buffer, size_t buffer_size, struct promql_result *result);
 void call_print_tree(const struct limits *limits, size_t max_tree, const void *tree, size_t tree_length, uint32_t mode,
                      uint32_t level, size_t width, uint32_t parentheses, void *buffer, size_t buffer_size,
                      struct promql_result *result);
@@ -261,14 +261,14 @@ uint32_t promql_snippet(const char *query, size_t query_length, size_t start, si
     return result->status;
 }
 
-uint32_t promql_format_query(const char *query, size_t query_length, size_t width, size_t indent_width, uint32_t keep_spelling,
+uint32_t promql_format_query(const char *query, size_t query_length, size_t width, size_t indent_width, uint32_t spelling,
                              char *buffer, size_t buffer_size, struct promql_result *result)
 {
     uint32_t status = look_at(query, query_length, buffer, buffer_size, result);
     if (status != PROMQL_OK)
         return refuse(status, result);
     struct limits limits = limits_now();
-    call_format(&limits, start_of(query), query_length, width, indent_width, keep_spelling, room_of(buffer), buffer_size,
+    call_format(&limits, start_of(query), query_length, width, indent_width, spelling, room_of(buffer), buffer_size,
                 result);
     return result->status;
 }

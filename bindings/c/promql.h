@@ -177,11 +177,13 @@ uint32_t promql_print_tree(const char *tree, size_t tree_length, uint32_t mode, 
  * the two changed and not the other. */
 void promql_set_limits(size_t max_len, size_t max_pattern_size);
 
+#define PROMQL_SORTED_MATCHERS 2
+
 /* Lays a query out for people: comments stay, chains of operators are flat, and lines have at most `width` characters where they can
- * be broken, with indentations of `indent_width` spaces; at most 65535 and 16. Where `keep_spelling` is not 0, numbers, durations, strings
- * and the order of what is written stay as they are. The text was read again: it has the query's tree and its comments
+ * be broken, with indentations of `indent_width` spaces; at most 65535 and 16. Where `spelling` is 0, numbers, durations and strings
+ * are spelled in one way; where it is PROMQL_SORTED_MATCHERS, matchers are sorted, too; where it is 1, all stays as it is written. The text was read again: it has the query's tree and its comments
  * (docs/reference/formatting.md). */
-uint32_t promql_format_query(const char *query, size_t query_length, size_t width, size_t indent_width, uint32_t keep_spelling,
+uint32_t promql_format_query(const char *query, size_t query_length, size_t width, size_t indent_width, uint32_t spelling,
                              char *buffer, size_t buffer_size, struct promql_result *result);
 
 /* Sets how many bytes a text of promql_print, promql_canonical, promql_print_tree or promql_format_query

@@ -148,8 +148,9 @@ func (e explained) Unwrap() error {
 type Option func(*layout)
 
 type layout struct {
-	width uint64
-	level uint16
+	width         uint64
+	level         uint16
+	sortsMatchers bool
 }
 
 // Width sets the most bytes that a line has after its indentation by Level, where that can be: 100 without this option.
@@ -160,6 +161,11 @@ func Width(bytes uint) Option {
 // Level indents each line by so many times two spaces.
 func Level(level uint16) Option {
 	return func(l *layout) { l.level = level }
+}
+
+// SortMatchers has FormatQuery sort the matchers of each selector, unless the spelling is kept. It does nothing for Format.
+func SortMatchers() Option {
+	return func(l *layout) { l.sortsMatchers = true }
 }
 
 // Canonical returns the query on one line, the same for each spelling of the query: the key of a cache.
@@ -190,8 +196,11 @@ func FormatQuery(query string, keepSpelling bool, options ...Option) (string, er
 		set(&made)
 	}
 	var kept C.uint32_t
-	if keepSpelling {
+	switch {
+	case keepSpelling:
 		kept = 1
+	case made.sortsMatchers:
+		kept = C.PROMQL_SORTED_MATCHERS
 	}
 	text, result := call(query, func(query *C.char, length C.size_t, buffer *C.char, size C.size_t, result *C.struct_promql_result) {
 		C.promql_format_query(query, length, C.size_t(made.width), 2, kept, buffer, size, result)

@@ -279,15 +279,16 @@ def pretty(query: str, *, width: int = 100, level: int = 0) -> str:
     return _text(query, _caller.format(query, _number("level", level, _MAX_LEVEL), _number("width", width, _MAX_WIDTH)))
 
 
-def format(query: str, *, width: int = 100, indent: int = 2, keep_spelling: bool = False) -> str:
+def format(query: str, *, width: int = 100, indent: int = 2, keep_spelling: bool = False, sort_matchers: bool = False) -> str:
     """The query, laid out for people (docs/reference/formatting.md): comments stay, chains of operators are flat, and a line has at most
     `width` characters, its indentation counted, where it can be broken. An indentation has `indent` spaces. They are at most 65,535 and 16.
 
-    With `keep_spelling` numbers, durations, strings and the order of what is written stay, too. What is returned was read again: it has the
+    With `keep_spelling` numbers, durations, strings and the order of what is written stay, too, and else with `sort_matchers` the matchers of a
+    selector are sorted. What is returned was read again: it has the
     query's tree and comments. Raises UnfaithfulError where it has not; there is no query for which this was seen.
     """
     size, spaces = _number("width", width, MAX_LINE), _number("indent", indent, _MAX_INDENT)
-    return _text(query, _caller.format_query(query, size, spaces, int(keep_spelling)))
+    return _text(query, _caller.format_query(query, size, spaces, 1 if keep_spelling else 2 * bool(sort_matchers)))
 
 
 # (as the library and the other languages call it)

@@ -155,9 +155,9 @@ def format(query: str, level: int, width: int) -> Answer:
     return _answer(print_query(_encoded(query), Mode.PRETTY, level, width))
 
 
-def format_query(query: str, width: int, indent_width: int, keep_spelling: int) -> Answer:
+def format_query(query: str, width: int, indent_width: int, spelling: int) -> Answer:
     encoded = _encoded(query)
-    return _answer(call("promql_format_query", 4 * len(encoded), encoded, len(encoded), width, indent_width, keep_spelling))
+    return _answer(call("promql_format_query", 4 * len(encoded), encoded, len(encoded), width, indent_width, spelling))
 
 
 def json(query: str) -> Answer:

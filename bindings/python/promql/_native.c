@@ -65,7 +65,7 @@ struct request {
     size_t width;
     uint32_t parentheses;
     size_t indent_width;
-    uint32_t keep_spelling;
+    uint32_t spelling;
     uint32_t as_json;
     size_t start;
     size_t end;
@@ -104,7 +104,7 @@ static uint32_t make_call(const struct library *library, const struct request *r
         return library->print_tree(query, length, request->mode, request->level, request->width, request->parentheses, buffer,
                                    size, result);
     case FORMAT_QUERY:
-        return library->format_query(query, length, request->width, request->indent_width, request->keep_spelling, buffer, size,
+        return library->format_query(query, length, request->width, request->indent_width, request->spelling, buffer, size,
                                      result);
     default:
         return library->version(buffer, size, result);
@@ -298,12 +298,12 @@ static PyObject *format_query(PyObject *module, PyObject *arguments)
 {
     PyObject *query;
     unsigned long long width, indent_width;
-    unsigned int keep_spelling;
-    if (!PyArg_ParseTuple(arguments, "OKKI", &query, &width, &indent_width, &keep_spelling))
+    unsigned int spelling;
+    if (!PyArg_ParseTuple(arguments, "OKKI", &query, &width, &indent_width, &spelling))
         return NULL;
     return answer_about(module, query,
                         (struct request){.call = FORMAT_QUERY, .width = (size_t)width, .indent_width = (size_t)indent_width,
-                                         .keep_spelling = keep_spelling, .room = 4});
+                                         .spelling = spelling, .room = 4});
 }
 
 static PyObject *snippet(PyObject *module, PyObject *arguments)

@@ -44,7 +44,8 @@ def add_parser(subparsers: Any) -> None:
     parser.add_argument("--indent", type=whole_number, default=2, metavar="N", help="spaces of an indentation for people (2)")
     parser.add_argument("--style", choices=STYLES, help="how queries are laid out: people keeps comments, pretty does not (people)")
     meant = parser.add_mutually_exclusive_group()
-    meant.add_argument("--keep-spelling", action="store_true", help="for people: numbers, strings and the order of matchers stay")
+    meant.add_argument("--keep-spelling", action="store_true", help="for people: numbers, durations and strings stay as they are written")
+    parser.add_argument("--sort-matchers", action="store_true", help="for people: the matchers of a selector are sorted")
     meant.add_argument("--enforce", metavar="MATCHER", help="put a matcher, such as namespace='team-a', into every selector")
     parser.add_argument("--max-output", type=whole_number, metavar="N", help="the most bytes of a layout (4194304)")
     parser.set_defaults(run=_run, command="format")
@@ -66,6 +67,7 @@ class Printer:
     # For people: the spaces of an indentation, and whether the spelling stays.
     indent: int = 2
     keeps_spelling: bool = False
+    sorts_matchers: bool = False
 
     def text(self, query: Query) -> Optional[str]:
         """The query as it is to be written; or nothing, where its variables would not come back."""
@@ -90,7 +92,13 @@ class Printer:
     def _for_people(self, query: str, width: int) -> str:
         """The query, laid out for people. Where it has to stay on one line the width is the greatest that there is."""
         with _short_output():
-            return promql.format(query, width=min(width, promql.MAX_LINE), indent=self.indent, keep_spelling=self.keeps_spelling)
+            return promql.format(
+                query,
+                width=min(width, promql.MAX_LINE),
+                indent=self.indent,
+                keep_spelling=self.keeps_spelling,
+                sort_matchers=self.sorts_matchers,
+            )
 
     def means(self, new: str, query: Query) -> bool:
         """Whether a text is what the query is to be."""
@@ -153,8 +161,9 @@ def _look_at_sizes(arguments: argparse.Namespace) -> None:
 def _run(arguments: argparse.Namespace) -> int:
     if arguments.output != "text" and not (arguments.check or arguments.diff or arguments.write):
         arguments.wrong("--output is for --check, --diff and --write: the text of a file is printed as it is")
-    if arguments.keep_spelling and arguments.style == PRETTY:
-        arguments.wrong("--keep-spelling is for --style people")
+    for name in ("keep_spelling", "sort_matchers"):
+        if getattr(arguments, name) and arguments.style == PRETTY:
+            arguments.wrong(f"--{name.replace('_', '-')} is for --style people")
     try:
         enforcer = _enforcer(arguments.enforce)
         if arguments.style != PRETTY:
@@ -170,8 +179,9 @@ def _run(arguments: argparse.Namespace) -> int:
 
 
 def _format_file(enforcer: Callable[[str], str], arguments: argparse.Namespace, target: Target) -> Report:
-    style = PEOPLE if arguments.keep_spelling else arguments.style
-    printer = Printer(arguments.width, arguments.enforce is not None, enforcer, style, arguments.indent, arguments.keep_spelling)
+    keeps, sorts = arguments.keep_spelling, arguments.sort_matchers
+    style = PEOPLE if keeps or sorts else arguments.style
+    printer = Printer(arguments.width, arguments.enforce is not None, enforcer, style, arguments.indent, keeps, sorts)
     messages: List[Message] = []
     queries = 0
     try:

@@ -228,12 +228,14 @@ pub struct Style {
     pub indent_width: usize,
     /// Whether numbers, durations, strings and the order of what is written stay as they are.
     pub keep_spelling: bool,
+    /// Whether the matchers of a selector are sorted, unless the spelling is kept.
+    pub sort_matchers: bool,
 }
 
 impl Default for Style {
-    /// Lines of at most 100 characters, indentations of two spaces, and one spelling for all.
+    /// Lines of at most 100 characters, indentations of two spaces, one spelling for all, and matchers as written.
     fn default() -> Style {
-        Style { width: 100, indent_width: 2, keep_spelling: false }
+        Style { width: 100, indent_width: 2, keep_spelling: false, sort_matchers: false }
     }
 }
 
@@ -245,7 +247,8 @@ impl Default for Style {
 /// Those of [`canonical`], `ReadOtherwise`, `WideLayout` where the style asks for more than it may, and `Unfaithful` where the layout does not
 /// read back.
 pub fn format_query(query: &str, style: Style) -> Result<String, Error> {
-    let (text, answer) = library::format_query(query, style.width, style.indent_width, style.keep_spelling);
+    let spelling = if style.keep_spelling { 1 } else { 2 * u32::from(style.sort_matchers) };
+    let (text, answer) = library::format_query(query, style.width, style.indent_width, spelling);
     match answer.status {
         library::UNKNOWN_MODE => Err(Error::WideLayout(text)),
         _ => text_of((text, answer)),

@@ -118,7 +118,7 @@ extern "C" {
         query_length: usize,
         width: usize,
         indent_width: usize,
-        keep_spelling: u32,
+        spelling: u32,
         buffer: *mut u8,
         buffer_size: usize,
         result: *mut Answer,
@@ -164,10 +164,9 @@ pub fn canonical(query: &str) -> (String, Answer) {
     })
 }
 
-pub fn format_query(query: &str, width: usize, indent_width: usize, keep_spelling: bool) -> (String, Answer) {
+pub fn format_query(query: &str, width: usize, indent_width: usize, spelling: u32) -> (String, Answer) {
     call(query.len(), |(buffer, size, answer)| unsafe {
-        let kept = keep_spelling.into();
-        promql_format_query(query.as_ptr(), query.len(), width, indent_width, kept, buffer, size, answer);
+        promql_format_query(query.as_ptr(), query.len(), width, indent_width, spelling, buffer, size, answer);
     })
 }
 

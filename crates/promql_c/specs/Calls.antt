@@ -7,8 +7,7 @@ use Rattle.promql_span.specs.declared.span.Span.{Span}
 use Rattle.promql_ast.specs.Tree.{Tree}
 use Rattle.promql_span.specs.declared.limits.Limits.{Limits}
 use Rattle.promql_rewrite.specs.declared.matcher_text.MatcherError.TheVariants as matcher_error
-use Rattle.promql_report.specs.Checking.{marked_line}
-use Rattle.promql_report.specs.Rejecting.{IsMessage, IsParsed, IsRejection, reason_number}
+use Rattle.promql_report.specs.Rejecting.{IsMessage, IsParsed, IsRejection, marked_line, reason_number}
 use Rattle.promql_lines.specs.Batch.{error_value}
 use Rattle.promql_lines.specs.Telling.{IsToldWith}
 use Rattle.promql_lines.specs.declared.rejected_query.RejectedQuery.{RejectedQuery}

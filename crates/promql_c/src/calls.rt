@@ -1,6 +1,7 @@
 //! The calls: from the bytes of a query into a caller's buffer. docs/guide/bindings.md, "Calls", has the rules.
 
-ghost use Rattle.std.specs.Prelude.{◌≡◌, ◌==◌, [], false, not, Some, Ok};
+ghost use Rattle.std.specs.Prelude.{◌≡◌, ◌==◌, ◌||◌, [], not, Some, Ok};
+ghost use Rattle.promql_c.specs.declared.calls.TheConstants.{SORTED_MATCHERS};
 ghost use Rattle.promql_c.specs.CallResults.{Shows, ShowsSome};
 ghost use Rattle.promql_c.specs.Calls.{IsEnforceOf, IsExplainOf, IsFormattedOf, IsPrintOf, IsRenameOf, IsSnippetOf, IsTextOf, IsTokensOf, IsTreePrintOf};
 ghost use Rattle.promql_c.specs.CollectedTexts.{IsCollectedText};
@@ -189,31 +190,34 @@ pub fn print_tree(
     show(alloc, made, buffer)
 }
 
+/// What asks `format` for sorted matchers.
+pub const SORTED_MATCHERS: u32 = 2;
+
 /// Lays a query out for people (docs/reference/formatting.md): comments stay, and chains of operators are flat. Lines have at most
-/// `width` characters where they can be broken, and indentations of `indent_width` spaces, at most 65,535 and 16. Where `keep_spelling` is not 0, numbers,
-/// durations, strings and the order of what is written stay as they are.
+/// `width` characters where they can be broken, and indentations of `indent_width` spaces, at most 65,535 and 16. Where `spelling` is 0, numbers,
+/// durations and strings are spelled in one way; where it is `SORTED_MATCHERS`, matchers are sorted, too; else all stays as it is written.
 pub fn format(
     alloc: Global,
     limits: &Limits,
     query: &[u8],
     width: usize,
     indent_width: usize,
-    keep_spelling: u32,
+    spelling: u32,
     buffer: &mut [u8],
 ) -> CallResult
     ensures { ShowsSome (IsFormattedOf limits.now (record {
       width = width;
       indent_width = indent_width;
-      keep_spelling = not (keep_spelling == 0);
-      sort_matchers = false;
+      keep_spelling = not (spelling == 0 || spelling == SORTED_MATCHERS);
+      sort_matchers = spelling == SORTED_MATCHERS;
       max_output = limits.now.max_output;
     }) query.now) result buffer.old buffer.new }
 {
     let options = FormatOptions {
         width,
         indent_width,
-        keep_spelling: keep_spelling != 0,
-        sort_matchers: false,
+        keep_spelling: spelling != 0 && spelling != SORTED_MATCHERS,
+        sort_matchers: spelling == SORTED_MATCHERS,
         max_output: limits.max_output,
     };
     let made = format_bytes(alloc, limits, &options, query);

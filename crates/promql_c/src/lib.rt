@@ -2,7 +2,8 @@
 //! name by which bindings/c/promql.c calls it, once it has looked at the pointers.
 #![tactic(auto)]
 
-ghost use Rattle.std.specs.Prelude.{◌≡◌, ◌==◌, [], false, not, Some, Ok};
+ghost use Rattle.std.specs.Prelude.{◌≡◌, ◌==◌, ◌||◌, [], not, Some, Ok};
+ghost use Rattle.promql_c.specs.declared.calls.TheConstants.{SORTED_MATCHERS};
 ghost use Rattle.promql_run.specs.declared.format.Format.TheVariants.{Line};
 ghost use Rattle.promql_c.specs.CallResults.{Shows, ShowsSome};
 ghost use Rattle.promql_span.specs.Targets.{for_rules};
@@ -246,15 +247,15 @@ pub extern "C" fn call_format(
     query: &[u8],
     width: usize,
     indent_width: usize,
-    keep_spelling: u32,
+    spelling: u32,
     buffer: &mut [u8],
     shown: &mut CallResult,
 )
     ensures { ShowsSome (IsFormattedOf (limits_of limits.now) (record {
       width = width;
       indent_width = indent_width;
-      keep_spelling = not (keep_spelling == 0);
-      sort_matchers = false;
+      keep_spelling = not (spelling == 0 || spelling == SORTED_MATCHERS);
+      sort_matchers = spelling == SORTED_MATCHERS;
       max_output = (limits_of limits.now).max_output;
     }) query.now) shown.new buffer.old buffer.new }
 {
@@ -264,7 +265,7 @@ pub extern "C" fn call_format(
         query,
         width,
         indent_width,
-        keep_spelling,
+        spelling,
         buffer,
     );
 }

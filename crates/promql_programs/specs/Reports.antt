@@ -1,17 +1,12 @@
 -- What is said of a part of a query (docs/reference/programs.md, "One query, checked").
-use Rattle.std.specs.Prelude.{◌++◌, Bool, encode_utf8_all, codes}
-use Rattle.std.specs.Str.{chars}
+use Rattle.std.specs.Prelude.{◌++◌, Bool, codes}
 use Rattle.promql_text.specs.Texts.{Text}
 use Rattle.promql_span.specs.Locations.{location_text}
-use Rattle.promql_span.specs.Snippets.{snippet_text}
 use Rattle.promql_span.specs.declared.location.Location.{Location}
 use Rattle.promql_span.specs.declared.span.Span.{Span}
+use Rattle.promql_report.specs.Rejecting.{marked_line}
 use Rattle.promql_run.specs.Colors.{marked, painted}
 use Rattle.promql_run.specs.declared.colors.TheConstants.{BOLD, GREEN}
-
--- the line of the query where the span begins, with its mark below
-abbrev pub marked_line : Text → Span → Text
-marked_line query span = encode_utf8_all (snippet_text (chars query) span)
 
 -- where it is from, the line and the column, a message, and the line of the query with its mark; the place and the mark may have colours
 abbrev pub report_text : Bool → (prefix : Text) → Text → Location → Span → Text → Text

@@ -1,5 +1,6 @@
 -- Why and where a query is rejected (docs/reference/programs.md, "Errors").
-use Rattle.std.specs.Prelude.{◌≡◌, ℕ, MatchOption, Option, Some, None, Ok, Err}
+use Rattle.std.specs.Prelude.{◌≡◌, ℕ, MatchOption, Option, Some, None, Ok, Err, encode_utf8_all}
+use Rattle.std.specs.Str.{chars}
 use Rattle.promql_span.specs.Locations.{location_of}
 use Rattle.promql_text.specs.Texts.{Text}
 use Rattle.promql_ast.specs.Tree.{Tree}
@@ -7,6 +8,7 @@ use Rattle.promql_span.specs.ErrorPlaces.{IsPlaceOf}
 use Rattle.promql_span.specs.PlacedTokens.{end_of}
 use Rattle.promql_span.specs.QueryLimits.{IsLimitFault, IsWithin}
 use Rattle.promql_span.specs.Targets.{difference}
+use Rattle.promql_span.specs.Snippets.{snippet_text}
 use Rattle.promql_span.specs.Unexpected.{IsUnexpected, unexpected_text}
 use Rattle.promql_span.specs.declared.unexpected.Unexpected.{Unexpected}
 use Rattle.promql_span.specs.declared.limits.LimitFault.{LimitFault}
@@ -19,6 +21,10 @@ use Rattle.promql_report.specs.declared.rejection.TheConstants.{PLAIN_SYNTAX_ERR
 use Rattle.promql_report.specs.declared.rejection.Reason.{Reason}
 use Rattle.promql_report.specs.declared.rejection.Reason.TheVariants.{Limit, Otherwise, Parse}
 use Rattle.promql_report.specs.declared.rejection.Rejection.{Rejection}
+
+-- the line of the query where the span begins, with its mark below
+abbrev pub marked_line : Text → Span → Text
+marked_line query span = encode_utf8_all (snippet_text (chars query) span)
 
 abbrev pub reason_number : Reason → ℕ
 reason_number (Parse e) = 4
