@@ -1,6 +1,6 @@
 //! The calls: from the bytes of a query into a caller's buffer. docs/guide/bindings.md, "Calls", has the rules.
 
-ghost use Rattle.std.specs.Prelude.{◌≡◌, ◌==◌, [], not, Some, Ok};
+ghost use Rattle.std.specs.Prelude.{◌≡◌, ◌==◌, [], false, not, Some, Ok};
 ghost use Rattle.promql_c.specs.CallResults.{Shows, ShowsSome};
 ghost use Rattle.promql_c.specs.Calls.{IsEnforceOf, IsExplainOf, IsFormattedOf, IsPrintOf, IsRenameOf, IsSnippetOf, IsTextOf, IsTokensOf, IsTreePrintOf};
 ghost use Rattle.promql_c.specs.CollectedTexts.{IsCollectedText};
@@ -205,6 +205,7 @@ pub fn format(
       width = width;
       indent_width = indent_width;
       keep_spelling = not (keep_spelling == 0);
+      sort_matchers = false;
       max_output = limits.now.max_output;
     }) query.now) result buffer.old buffer.new }
 {
@@ -212,6 +213,7 @@ pub fn format(
         width,
         indent_width,
         keep_spelling: keep_spelling != 0,
+        sort_matchers: false,
         max_output: limits.max_output,
     };
     let made = format_bytes(alloc, limits, &options, query);

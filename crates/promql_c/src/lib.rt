@@ -2,7 +2,7 @@
 //! name by which bindings/c/promql.c calls it, once it has looked at the pointers.
 #![tactic(auto)]
 
-ghost use Rattle.std.specs.Prelude.{◌≡◌, ◌==◌, [], not, Some, Ok};
+ghost use Rattle.std.specs.Prelude.{◌≡◌, ◌==◌, [], false, not, Some, Ok};
 ghost use Rattle.promql_run.specs.declared.format.Format.TheVariants.{Line};
 ghost use Rattle.promql_c.specs.CallResults.{Shows, ShowsSome};
 ghost use Rattle.promql_span.specs.Targets.{for_rules};
@@ -254,6 +254,7 @@ pub extern "C" fn call_format(
       width = width;
       indent_width = indent_width;
       keep_spelling = not (keep_spelling == 0);
+      sort_matchers = false;
       max_output = (limits_of limits.now).max_output;
     }) query.now) shown.new buffer.old buffer.new }
 {

@@ -8,7 +8,7 @@ use Rattle.promql_format.specs.declared.settings.Settings.{Settings}
 
 abbrev pub default_settings : Settings
 default_settings =
-    record { limits = default_limits; options = record { width = 100; indent_width = 2; keep_spelling = false; max_output = default_limits.max_output }; is_check = false }
+    record { limits = default_limits; options = record { width = 100; indent_width = 2; keep_spelling = false; sort_matchers = false; max_output = default_limits.max_output }; is_check = false }
 
 -- options without a value
 abbrev pub is_flag : Text → Bool

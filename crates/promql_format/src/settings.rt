@@ -87,6 +87,7 @@ fn default_settings() -> Settings
             width: DEFAULT_WIDTH,
             indent_width: DEFAULT_INDENT_WIDTH,
             keep_spelling: false,
+            sort_matchers: false,
             max_output: MAX_OUTPUT,
         },
         is_check: false,

@@ -9,13 +9,24 @@ use std::alloc::{AllocError, Global};
 /// How many precedences there are.
 const PRECEDENCES: usize = 6;
 
+/// How an operand is written after an operator.
+#[derive(Clone, Copy, Debug, PartialEq, Eq)]
+pub(crate) enum Size {
+    /// A number, or a call of nothing or of a number.
+    Number,
+    /// A string or a selector.
+    Short,
+    Long,
+    /// A chain of operators.
+    Chain,
+}
+
 /// An operand, by the indexes of its tokens.
 #[derive(Clone, Copy)]
 pub(crate) struct Operand {
     pub start: usize,
     pub last: usize,
-    /// Whether it is a number, a string or a selector.
-    pub is_short: bool,
+    pub size: Size,
 }
 
 /// Operators of one precedence, with their operands.
@@ -31,6 +42,8 @@ struct Chain {
     operator: usize,
     /// How many operators it has so far.
     count: usize,
+    /// Whether its first operand is a number.
+    after_number: bool,
 }
 
 /// The chains that are open, from the outermost to the innermost.
@@ -64,14 +77,14 @@ impl Chains {
                 let _ = self.open.push(chain);
                 return operand;
             }
-            if operand.is_short && (!chain.is_set || chain.count == 1) {
-                fill(list, chain.operator);
+            if !chain.is_set || chain.count == 1 {
+                fill(list, &chain, operand.size);
             }
             if let Some(piece) = list.get_mut(operand.last) {
                 piece.closes = piece.closes.saturating_add(1);
             }
             operand.start = chain.start;
-            operand.is_short = false;
+            operand.size = Size::Chain;
         }
         operand
     }
@@ -88,13 +101,15 @@ impl Chains {
         let precedence = precedence(op);
         let mut count: usize = 1;
         let mut start = operand.start;
+        let mut after_number = operand.size == Size::Number;
         match self.open.pop() {
             Some(chain) if chain.depth == depth && chain.precedence == precedence => {
-                if operand.is_short && !chain.is_set {
-                    fill(list, chain.operator);
+                if !chain.is_set {
+                    fill(list, &chain, operand.size);
                 }
                 count = chain.count.saturating_add(1);
                 start = chain.start;
+                after_number = chain.after_number;
             }
             Some(chain) => {
                 self.open.push(chain)?;
@@ -109,15 +124,23 @@ impl Chains {
             start,
             operator,
             count,
+            after_number,
         })?;
         Ok(())
     }
 }
 
-/// Lets an operator stay on the line before it, where it fits.
-fn fill(list: &mut Vec<Piece>, operator: usize) {
-    if let Some(piece) = list.get_mut(operator) {
-        piece.place = Break::Fill;
+/// Lets the last operator of a chain stay on the line before it, where that suits its right side.
+fn fill(list: &mut Vec<Piece>, chain: &Chain, size: Size) {
+    if let Some(piece) = list.get_mut(chain.operator) {
+        match size {
+            Size::Number => piece.place = Break::Number,
+            Size::Short => piece.place = Break::Fill,
+            Size::Long if chain.after_number && chain.count == 1 => {
+                piece.place = Break::AfterNumber;
+            }
+            Size::Long | Size::Chain => {}
+        }
     }
 }
 

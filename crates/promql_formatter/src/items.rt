@@ -1,7 +1,7 @@
 //! The tokens of a query as texts, groups and places where a line may be broken.
 
 use crate::comments::between;
-use crate::piece::{Bracket, Break, Piece, Pieces};
+use crate::piece::{Bracket, Break, Context, Piece, Pieces};
 use std::alloc::{AllocError, Global};
 
 /// A part of what is written.
@@ -14,7 +14,7 @@ pub(crate) enum Item {
     /// A comma, where the group has several lines.
     Comma,
     /// A bracket's group begins, with the bracket.
-    BeginBracket,
+    BeginBracket(Context),
     /// A chain begins, with its first operand.
     BeginChain,
     /// A group ends.
@@ -72,8 +72,8 @@ fn push_piece(pieces: &Pieces, items: &mut Vec<Item>, piece: &Piece) -> Result<(
     for _ in 0..piece.opens {
         items.push(Item::BeginChain)?;
     }
-    if piece.bracket == Bracket::Open {
-        items.push(Item::BeginBracket)?;
+    if let Bracket::Open(context) = piece.bracket {
+        items.push(Item::BeginBracket(context))?;
     }
     if piece.start < piece.end {
         items.push(Item::Text(pieces.text(piece.start, piece.end, piece.space)))?;

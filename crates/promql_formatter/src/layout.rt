@@ -27,7 +27,7 @@ pub(crate) fn laid_out(
 {
     let mut pieces = read_pieces(alloc, text, options.keep_spelling)?;
     if !options.keep_spelling {
-        pieces = reorder(alloc, pieces)?;
+        pieces = reorder(alloc, pieces, options.sort_matchers)?;
     }
     let pieces = structured(alloc, pieces, !options.keep_spelling)?;
     let items = items_of(alloc, &pieces)?;

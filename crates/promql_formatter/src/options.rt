@@ -27,6 +27,8 @@ pub struct FormatOptions {
     pub indent_width: usize,
     /// Whether numbers, durations, strings, keywords, clauses and the order of matchers stay as they are written.
     pub keep_spelling: bool,
+    /// Whether the matchers of a selector are in byte order, unless the spelling is kept.
+    pub sort_matchers: bool,
     /// The most bytes of the layout.
     pub max_output: usize,
 }
@@ -53,12 +55,13 @@ pub enum WideOption {
 }
 
 impl FormatOptions {
-    /// Lines of 100 characters, indentations of two spaces, one spelling for all, and at most 4 MiB.
+    /// Lines of 100 characters, indentations of two spaces, one spelling for all, matchers as written, and at most 4 MiB.
     pub fn new() -> FormatOptions {
         FormatOptions {
             width: DEFAULT_WIDTH,
             indent_width: DEFAULT_INDENT_WIDTH,
             keep_spelling: false,
+            sort_matchers: false,
             max_output: MAX_OUTPUT,
         }
     }

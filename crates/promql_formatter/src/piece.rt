@@ -11,8 +11,30 @@ pub(crate) enum Break {
     Lines,
     /// Where the group has several lines, and what follows does not fit.
     Fill,
+    /// As `Fill`, before an operator whose right side is a number. Parentheses before it are broken first.
+    Number,
+    /// As `Fill`, before the right side of an operator with labels, or before its `group_left` or `group_right`.
+    RightSide,
+    /// Before what comes after `group_left` or `group_right`, where not even its head fits.
+    Grouped,
+    /// After a number or a string that comes first, where not even the head of what follows fits.
+    AfterNumber,
     /// As `Lines`, before the bracket that closes the group.
     Close,
+}
+
+/// What is between two brackets.
+#[derive(Clone, Copy, Debug, PartialEq, Eq)]
+pub(crate) enum Context {
+    /// Expressions with commas between them; the whole text, too.
+    Expressions,
+    /// As `Expressions`, of which there is one: a call, or a selector with matchers.
+    Single,
+    /// Labels after `by`, `on` and the like.
+    Labels,
+    Matchers,
+    /// A range, a fill value, or the number of a call.
+    Value,
 }
 
 /// What a token is to the groups around it.
@@ -20,7 +42,7 @@ pub(crate) enum Break {
 pub(crate) enum Bracket {
     /// No bracket of a group.
     No,
-    Open,
+    Open(Context),
     Close,
     /// Closes a group whose last item has a comma after it, where the group has several lines.
     CloseList,

@@ -37,10 +37,16 @@ struct Reordered {
     brace: Option<Open>,
     /// How many of the tokens have comments.
     commented: usize,
+    /// Whether matchers are sorted.
+    sort_matchers: bool,
 }
 
-/// Puts each clause before its arguments, and the matchers of each list in the order of their texts.
-pub(crate) fn reorder(alloc: Global, pieces: Pieces) -> Result<Pieces, AllocError> {
+/// Puts each clause before its arguments, and, if that is asked for, the matchers of each list in the order of their texts.
+pub(crate) fn reorder(
+    alloc: Global,
+    pieces: Pieces,
+    sort_matchers: bool,
+) -> Result<Pieces, AllocError> {
     let mut reordered = Reordered {
         list: Vec::with_capacity(alloc, pieces.list.len())?,
         opens: Vec::new(alloc),
@@ -48,6 +54,7 @@ pub(crate) fn reorder(alloc: Global, pieces: Pieces) -> Result<Pieces, AllocErro
         clause: None,
         brace: None,
         commented: 0,
+        sort_matchers,
     };
     for piece in &pieces.list {
         reordered.push(alloc, &pieces.bytes, *piece)?;
@@ -82,7 +89,7 @@ impl Reordered {
             TokenKind::By | TokenKind::Without => self.clause = clause_after(closed, open.at),
             TokenKind::LeftBrace => self.brace = Some(open),
             TokenKind::Operator(T_LOR) => self.brace = None,
-            TokenKind::RightBrace => self.sort_matchers(alloc, bytes)?,
+            TokenKind::RightBrace if self.sort_matchers => self.sort_matchers(alloc, bytes)?,
             _ => {}
         }
         self.list.push(piece)?;

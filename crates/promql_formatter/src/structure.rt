@@ -1,25 +1,13 @@
 //! Where a query may be broken: docs/reference/formatting.md, "Lines".
 
-use crate::chains::{Chains, Operand};
+use crate::chains::{Chains, Operand, Size};
 use crate::comments::between;
-use crate::piece::{Bracket, Break, Piece, Pieces};
+use crate::piece::{Bracket, Break, Context, Piece, Pieces};
 use promql_grammar::TokenKind;
 use promql_grammar::precedence::precedence;
 use promql_token::TokenId;
 use promql_token::ids::{T_ADD, T_LOR, T_SUB};
 use std::alloc::{AllocError, Global};
-
-/// What is between two brackets.
-#[derive(Clone, Copy, Debug, PartialEq, Eq)]
-enum Context {
-    /// Expressions with commas between them; the whole text, too.
-    Expressions,
-    /// Labels after `by`, `on` and the like.
-    Labels,
-    Matchers,
-    /// A range, or a fill value.
-    Value,
-}
 
 /// A bracket that is open, or the whole text.
 #[derive(Clone, Copy)]
@@ -33,8 +21,16 @@ struct Level {
     wants_time: bool,
     /// The first token of the operand, once it began.
     operand: Option<usize>,
-    /// Whether the operand is a number, a string or a selector.
-    is_short: bool,
+    /// How long the operand is.
+    size: Size,
+    /// Where the line may be broken before the operand, after the modifiers before it.
+    side: Break,
+    /// The index of the bracket.
+    bracket: usize,
+    /// Whether nothing is before the operand but numbers and strings with commas after them.
+    is_alone: bool,
+    /// Whether the operand is a call, or a selector with matchers.
+    has_bracket: bool,
 }
 
 /// A token, and what it does to the brackets that are open.
@@ -80,21 +76,34 @@ pub(crate) fn structured(
         is_glued: true,
         lower_keywords,
     };
-    structure.levels.push(new_level(Context::Expressions))?;
+    structure.levels.push(new_level(Context::Expressions, 0))?;
     for index in 0..count {
         structure.take(alloc, index)?;
     }
     Ok(structure.pieces)
 }
 
-fn new_level(context: Context) -> Level {
+fn new_level(context: Context, bracket: usize) -> Level {
     Level {
         context,
         is_new: true,
+        bracket,
+        is_alone: true,
+        has_bracket: false,
         wants_operand: true,
         wants_time: false,
         operand: None,
-        is_short: true,
+        size: Size::Number,
+        side: Break::No,
+    }
+}
+
+/// The same level, where another operand is to come.
+fn next_level(level: Level, is_alone: bool) -> Level {
+    Level {
+        is_new: false,
+        is_alone,
+        ..new_level(Context::Expressions, level.bracket)
     }
 }
 
@@ -118,19 +127,97 @@ impl Structure {
         step.piece.space = !self.is_glued;
         let is_first = level.is_new && !self.levels.is_empty();
         if is_first || self.before == TokenKind::Comma {
-            step.piece.place = Break::Lines;
+            step.piece.place = self.place_of_item(index, level, piece.kind);
         }
         step.level.is_new = false;
         match level.context {
-            Context::Expressions => self.take_expression(index, level.is_new, &mut step)?,
-            Context::Labels => take_label(level.is_new, &mut step),
+            Context::Expressions | Context::Single => {
+                self.take_expression(index, level.is_new, &mut step)?;
+            }
+            Context::Labels => {
+                take_label(level.is_new, &mut step);
+                self.end_list(index, &step);
+            }
             Context::Matchers => {
                 self.keep_after_or(&piece);
                 take_matcher(level.is_new, self.before, &mut step);
+                self.end_list(index, &step);
             }
             Context::Value => take_value(&mut step),
         }
         self.finish(alloc, index, step)
+    }
+
+    /// Where the line may be broken before an item between brackets.
+    fn place_of_item(&self, index: usize, level: Level, kind: TokenKind) -> Break {
+        let is_string = kind == TokenKind::String
+            && self.kind_at(index.saturating_sub(2)) == TokenKind::String;
+        match level.context {
+            _ if level.is_new => Break::Lines,
+            Context::Labels | Context::Matchers => Break::Fill,
+            _ if is_string => Break::Fill,
+            _ if level.is_alone => Break::AfterNumber,
+            _ => Break::Lines,
+        }
+    }
+
+    /// Whether the operand that ends before the token with this index is a number or a string.
+    fn is_literal(&self, index: usize, level: Level) -> bool {
+        let is_one = level.operand == Some(index.saturating_sub(1));
+        is_one
+            && matches!(
+                self.before,
+                TokenKind::Number | TokenKind::Duration | TokenKind::String
+            )
+    }
+
+    /// Notes whether the parentheses that end here are those of a call of a single call or selector.
+    fn end_call(&mut self, step: &Step) {
+        let level = step.level;
+        let is_single = level.operand == Some(level.bracket.saturating_add(1));
+        if !is_single || !level.has_bracket || step.piece.has_comments() {
+            return;
+        }
+        if let Some(around) = self.levels.last()
+            && around.operand != Some(level.bracket)
+            && let Some(piece) = self.pieces.list.get_mut(level.bracket)
+        {
+            piece.bracket = Bracket::Open(Context::Single);
+        }
+    }
+
+    /// The kind of the token with this index.
+    fn kind_at(&self, index: usize) -> TokenKind {
+        match self.pieces.list.get(index) {
+            Some(piece) => piece.kind,
+            None => TokenKind::Other,
+        }
+    }
+
+    /// Puts each label or matcher of a list that ends on a line of its own, if a comment is in the list.
+    fn end_list(&mut self, index: usize, step: &Step) {
+        if !step.ends || !self.has_comments(step.level.bracket, index) {
+            return;
+        }
+        for at in step.level.bracket..index {
+            if let Some(piece) = self.pieces.list.get_mut(at)
+                && piece.place == Break::Fill
+            {
+                piece.place = Break::Lines;
+            }
+        }
+    }
+
+    /// Whether a comment is after the token with one index, and before the one with another.
+    fn has_comments(&self, after: usize, before: usize) -> bool {
+        for at in after..before {
+            if let Some(piece) = self.pieces.list.get(at.saturating_add(1))
+                && piece.has_comments()
+            {
+                return true;
+            }
+        }
+        false
     }
 
     /// Puts a comment after `or` on the line of it: between braces `or` is an operator only before a space.
@@ -151,8 +238,10 @@ impl Structure {
             piece.start = start;
             piece.end = end;
         }
-        if let Some(Context::Expressions | Context::Labels | Context::Matchers) = step.opens {
-            piece.bracket = Bracket::Open;
+        if let Some(context) = step.opens
+            && context != Context::Value
+        {
+            piece.bracket = Bracket::Open(context);
         }
         if let Some(slot) = self.pieces.list.get_mut(index) {
             *slot = piece;
@@ -163,7 +252,7 @@ impl Structure {
             self.levels.push(step.level)?;
         }
         if let Some(context) = step.opens {
-            self.levels.push(new_level(context))?;
+            self.levels.push(new_level(context, index))?;
         }
         Ok(())
     }
@@ -188,12 +277,13 @@ impl Structure {
             TokenKind::Comma => {
                 self.end_operand(index, 0, step.level);
                 step.piece.space = false;
-                step.level = new_level(Context::Expressions);
-                step.level.is_new = false;
+                let is_alone = step.level.is_alone && self.is_literal(index, step.level);
+                step.level = next_level(step.level, is_alone);
             }
             TokenKind::RightParen => {
                 self.end_operand(index, 0, step.level);
                 close(is_new, Bracket::Close, step);
+                self.end_call(step);
             }
             TokenKind::Other => {
                 self.end_operand(index, 0, step.level);
@@ -213,7 +303,7 @@ impl Structure {
         let operand = Operand {
             start: level.operand.unwrap_or(last),
             last,
-            is_short: level.is_short,
+            size: level.size,
         };
         let depth = self.levels.len();
         self.chains
@@ -231,8 +321,7 @@ impl Structure {
         let depth = self.levels.len();
         self.chains
             .join(&mut self.pieces.list, depth, op, index, operand)?;
-        step.level = new_level(Context::Expressions);
-        step.level.is_new = false;
+        step.level = next_level(step.level, false);
         step.piece.place = Break::Lines;
         step.is_keyword = true;
         Ok(())
@@ -240,31 +329,14 @@ impl Structure {
 
     /// A token where an operand is to come: a modifier, a sign, or the first token of the operand.
     fn take_operand(&self, index: usize, step: &mut Step) {
-        let before = self.before;
-        match step.piece.kind {
-            TokenKind::Bool
-            | TokenKind::On
-            | TokenKind::Ignoring
-            | TokenKind::GroupLeft
-            | TokenKind::GroupRight
-            | TokenKind::Fill
-            | TokenKind::FillLeft
-            | TokenKind::FillRight => {
-                step.is_keyword = true;
-                return;
-            }
-            TokenKind::LeftParen if has_labels(before) => {
-                step.opens = Some(Context::Labels);
-                return;
-            }
-            TokenKind::LeftParen if has_value(before) => {
-                step.opens = Some(Context::Value);
-                return;
-            }
-            _ => {}
+        if take_modifier(self.before, step) {
+            return;
         }
         if step.level.operand.is_none() {
             step.level.operand = Some(index);
+            if step.level.side != Break::No {
+                step.piece.place = step.level.side;
+            }
         }
         if let TokenKind::Operator(T_ADD | T_SUB) = step.piece.kind {
             step.is_sign = true;
@@ -273,25 +345,38 @@ impl Structure {
         step.level.wants_operand = false;
         match step.piece.kind {
             TokenKind::LeftParen => {
-                step.level.is_short = false;
+                step.level.size = Size::Long;
                 step.opens = Some(Context::Expressions);
             }
-            TokenKind::LeftBrace => step.opens = Some(Context::Matchers),
+            TokenKind::LeftBrace => {
+                step.level.size = Size::Short;
+                step.level.has_bracket = true;
+                step.opens = Some(Context::Matchers);
+            }
+            TokenKind::Number | TokenKind::Duration => {}
             kind => self.take_name(kind, index, step),
         }
     }
 
-    /// The first token of an operand without brackets, or the name of a call or an aggregation.
+    /// A string, a name of a selector, or the name of a call or an aggregation.
     fn take_name(&self, kind: TokenKind, index: usize, step: &mut Step) {
-        let next = match self.pieces.list.get(index.saturating_add(1)) {
-            Some(piece) => piece.kind,
-            None => TokenKind::Other,
-        };
+        let next = self.kind_at(index.saturating_add(1));
         let is_aggregator = matches!(kind, TokenKind::Aggregator(_));
         let has_clause = is_aggregator && matches!(next, TokenKind::By | TokenKind::Without);
+        step.level.size = Size::Short;
         if next == TokenKind::LeftParen || has_clause {
-            step.level.is_short = false;
+            step.level.size = self.size_of_call(index);
             step.is_keyword = is_aggregator;
+        }
+    }
+
+    /// The size of the call whose name has this index.
+    fn size_of_call(&self, index: usize) -> Size {
+        let first = self.kind_at(index.saturating_add(2));
+        let second = self.kind_at(index.saturating_add(3));
+        match (first, second) {
+            (TokenKind::RightParen, _) | (TokenKind::Number, TokenKind::RightParen) => Size::Number,
+            _ => Size::Long,
         }
     }
 
@@ -302,12 +387,18 @@ impl Structure {
             TokenKind::LeftParen if matches!(before, TokenKind::By | TokenKind::Without) => {
                 step.opens = Some(Context::Labels);
             }
+            TokenKind::LeftParen if step.level.size == Size::Number => {
+                step.piece.space = false;
+                step.opens = Some(Context::Value);
+            }
             TokenKind::LeftParen => {
                 step.piece.space = before == TokenKind::RightParen;
+                step.level.has_bracket = true;
                 step.opens = Some(Context::Expressions);
             }
             TokenKind::LeftBrace => {
                 step.piece.space = false;
+                step.level.has_bracket = true;
                 step.opens = Some(Context::Matchers);
             }
             TokenKind::LeftBracket => {
@@ -325,6 +416,29 @@ impl Structure {
             }
         }
     }
+}
+
+/// Takes a modifier before a right side, or the bracket after one, and says whether it is one.
+fn take_modifier(before: TokenKind, step: &mut Step) -> bool {
+    match step.piece.kind {
+        TokenKind::On | TokenKind::Ignoring => step.level.side = Break::RightSide,
+        TokenKind::GroupLeft | TokenKind::GroupRight => {
+            step.piece.place = step.level.side;
+            step.level.side = Break::Grouped;
+        }
+        TokenKind::LeftParen if has_labels(before) => {
+            step.opens = Some(Context::Labels);
+            return true;
+        }
+        TokenKind::LeftParen if has_value(before) => {
+            step.opens = Some(Context::Value);
+            return true;
+        }
+        TokenKind::Bool | TokenKind::Fill | TokenKind::FillLeft | TokenKind::FillRight => {}
+        _ => return false,
+    }
+    step.is_keyword = true;
+    true
 }
 
 /// Whether a parenthesis after a token of this kind has labels in it.
@@ -374,7 +488,7 @@ fn take_matcher(is_new: bool, before: TokenKind, step: &mut Step) {
     }
 }
 
-/// A token of a range or a fill value.
+/// A token of a range, of a fill value or of the number of a call.
 fn take_value(step: &mut Step) {
     step.piece.space = false;
     step.piece.place = Break::No;

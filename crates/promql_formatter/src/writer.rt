@@ -4,11 +4,11 @@ ghost use Rattle.std.specs.Prelude.{◌≤◌, IfErr, IfOk, length};
 ghost use Rattle.promql_formatter.specs.Options.{HasNoLayout};
 
 use crate::comments::between;
-use crate::fits::{Until, fits, has_lines};
+use crate::fits::{Until, closing_items, fits, has_lines, inner_items};
 use crate::format_error::FormatError;
 use crate::items::{Item, Text};
 use crate::options::FormatOptions;
-use crate::piece::Break;
+use crate::piece::{Break, Context};
 use promql_span::limits::LongOutput;
 use std::alloc::{AllocError, Global};
 
@@ -19,6 +19,8 @@ struct Frame {
     is_broken: bool,
     /// Whether it is a chain with an operator that begins a line.
     has_lines: bool,
+    /// Whether its brackets stay on the lines of what is in it.
+    is_tight: bool,
     /// The spaces before a line of it.
     indent: usize,
     /// The spaces before its closing bracket.
@@ -110,7 +112,7 @@ impl Writer {
             Item::Break(place) => self.write_break(place, rest),
             Item::Comma if self.frame().is_broken => self.write_bytes(b",", 1),
             Item::Comma => Ok(()),
-            Item::BeginBracket => self.begin_bracket(rest),
+            Item::BeginBracket(context) => self.begin_bracket(context, rest),
             Item::BeginChain => self.begin_chain(rest),
             Item::End => {
                 self.frames.pop();
@@ -126,6 +128,7 @@ impl Writer {
             None => Frame {
                 is_broken: true,
                 has_lines: false,
+                is_tight: false,
                 indent: 0,
                 close_indent: 0,
             },
@@ -144,9 +147,14 @@ impl Writer {
         Ok(())
     }
 
+    /// An indentation of at most half of the width.
+    fn capped(&self, indent: usize) -> usize {
+        indent.min(self.options.width / 2)
+    }
+
     /// Begins a line. At most half of the width is indentation.
     fn write_line(&mut self, indent: usize) -> Result<(), AllocError> {
-        let indent = indent.min(self.options.width / 2);
+        let indent = self.capped(indent);
         self.push(b"\n")?;
         self.push_spaces(indent)?;
         self.column = indent;
@@ -186,29 +194,86 @@ impl Writer {
 
     fn write_break(&mut self, place: Break, rest: &[Item]) -> Result<(), AllocError> {
         let frame = self.frame();
-        let is_due = match place {
-            Break::No => false,
-            Break::Fill => self.is_ended || !fits(rest, self.room(), false, Until::Break),
-            Break::Lines | Break::Close => true,
-        };
-        if !is_due || !frame.is_broken || self.len == 0 || (self.is_fresh && !self.is_ended) {
+        let is_begun = self.len == 0 || (self.is_fresh && !self.is_ended);
+        let is_tight = frame.is_tight && !self.is_ended;
+        if is_begun || is_tight || !frame.is_broken || !self.is_due(place, rest) {
             return Ok(());
         }
         match place {
             Break::Close => self.write_line(frame.close_indent),
+            Break::RightSide | Break::Grouped => self.continue_line(),
             _ => self.write_line(frame.indent),
         }
     }
 
-    fn begin_bracket(&mut self, rest: &[Item]) -> Result<(), AllocError> {
+    /// Whether the line is broken at this place, where its group has several lines.
+    fn is_due(&self, place: Break, rest: &[Item]) -> bool {
+        match place {
+            Break::No => false,
+            Break::Lines | Break::Close => true,
+            _ if self.is_ended => true,
+            Break::Fill => !self.fits_here(rest, Until::ItemAndNumbers),
+            Break::Number => !self.fits_here(rest, Until::Item),
+            Break::RightSide => self.is_right_side_due(rest),
+            Break::Grouped => !self.fits_here(rest, Until::Head),
+            Break::AfterNumber => self.is_due_after_number(rest),
+        }
+    }
+
+    /// Whether the line is broken before a right side: if it fits on a line of its own, or not even its head fits here.
+    fn is_right_side_due(&self, rest: &[Item]) -> bool {
+        let indent = self
+            .frame()
+            .indent
+            .saturating_add(self.options.indent_width);
+        let room = self.options.width.saturating_sub(self.capped(indent));
+        !self.fits_here(rest, Until::ItemAndNumbers)
+            && (fits(rest, room, true, Until::ItemAndNumbers) || !self.fits_here(rest, Until::Head))
+    }
+
+    /// Whether the line is broken after a number: if not even the head of what follows fits, or it is a chain that does not fit.
+    fn is_due_after_number(&self, rest: &[Item]) -> bool {
+        let is_chain = matches!(rest.first(), Some(Item::BeginChain));
+        let until = if is_chain { Until::Item } else { Until::Head };
+        !self.fits_here(rest, until)
+    }
+
+    /// Whether the items fit on the rest of the line.
+    fn fits_here(&self, rest: &[Item], until: Until) -> bool {
+        fits(rest, self.room(), self.is_fresh, until)
+    }
+
+    /// Whether the group that has begun stays on its line. It is broken, too, where only so a number after it stays with it.
+    fn stays_on_line(&self, context: Context, rest: &[Item]) -> bool {
+        if matches!(context, Context::Labels | Context::Matchers) {
+            return self.fits_here(rest, Until::End);
+        }
+        let room = self.options.width.saturating_sub(self.line_indent);
+        self.fits_here(rest, Until::EndAndNumbers)
+            || (self.fits_here(rest, Until::End)
+                && !fits(closing_items(rest), room, true, Until::EndAndNumbers))
+    }
+
+    /// Whether what is in brackets begins and ends beside them: it does not fit on a line of its own, and its head fits here.
+    fn is_tight(&self, rest: &[Item]) -> bool {
+        let indent = self.line_indent.saturating_add(self.options.indent_width);
+        let room = self.options.width.saturating_sub(self.capped(indent));
+        let inner = inner_items(rest);
+        !inner.is_empty()
+            && !fits(inner, room, true, Until::Item)
+            && self.fits_here(rest, Until::InnerHead)
+    }
+
+    fn begin_bracket(&mut self, context: Context, rest: &[Item]) -> Result<(), AllocError> {
         if self.is_ended {
             self.continue_line()?;
         }
-        let is_broken = self.frame().is_broken
-            && !fits(rest, self.room(), self.is_fresh, Until::End);
+        let is_broken = self.frame().is_broken && !self.stays_on_line(context, rest);
+        let is_tight = is_broken && context == Context::Single && self.is_tight(rest);
         self.frames.push(Frame {
             is_broken,
             has_lines: false,
+            is_tight,
             indent: self.line_indent.saturating_add(self.options.indent_width),
             close_indent: self.line_indent,
         })?;
@@ -217,7 +282,7 @@ impl Writer {
 
     fn begin_chain(&mut self, rest: &[Item]) -> Result<(), AllocError> {
         let around = self.frame();
-        let is_broken = around.is_broken && !fits(rest, self.room(), self.is_fresh, Until::End);
+        let is_broken = around.is_broken && !self.fits_here(rest, Until::EndAndNumbers);
         let indent = if around.has_lines {
             around.indent.saturating_add(self.options.indent_width)
         } else {
@@ -226,6 +291,7 @@ impl Writer {
         self.frames.push(Frame {
             is_broken,
             has_lines: is_broken && has_lines(rest),
+            is_tight: false,
             indent,
             close_indent: indent,
         })?;

@@ -55,7 +55,12 @@ impl From<NotFaithful> for Failed {
 
 /// The first column of a row, and the others.
 fn columns(row: &str) -> (&str, &str) {
-    row.split_once(" => ")
+    columns_by(row, " => ")
+}
+
+/// The first column of a row, and the others, with this text between them.
+fn columns_by<'a>(row: &'a str, separator: &str) -> (&'a str, &'a str) {
+    row.split_once(separator)
         .unwrap_or((row, "a row of one column"))
 }
 

@@ -3,4 +3,5 @@
 mod comments;
 mod errors;
 mod layouts;
+mod rules;
 mod spelling;

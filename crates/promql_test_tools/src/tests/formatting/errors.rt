@@ -72,7 +72,7 @@ const ASKED: [(usize, usize, usize, &str); 6] = [
         100,
         "indentation is too large: 1000000000, at most 16",
     ),
-    (8, 4, 29, "output is too long: 30 bytes, at most 29"),
+    (8, 4, 19, "output is too long: 20 bytes, at most 19"),
     (65_535, 16, 13, "output is too long: 14 bytes, at most 13"),
 ];
 
@@ -87,6 +87,7 @@ fn asked_error(
         width,
         indent_width,
         keep_spelling: false,
+        sort_matchers: false,
         max_output,
     };
     match format_query(alloc, "sum(sum(aaaa))", &options) {

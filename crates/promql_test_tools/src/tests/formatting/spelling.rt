@@ -24,7 +24,7 @@ a @ 0x10 => a @ 16 => a @ 0x10
 SUM(A) BY (B) => sum by (B) (A) => SUM(A) BY (B)
 SUM AND Sum => SUM and Sum => SUM AND Sum
 + - a => +-a => +-a
-a{c='1',b='2',} => a{b="2",c="1"} => a{c='1',b='2'}
+a{c='1',b='2',} => a{c="1",b="2"} => a{c='1',b='2'}
 a{c='1' OR b='2'} => a{c="1" or b="2"} => a{c='1' OR b='2'}
 a == BOOL ON(x,)GROUP_LEFT b => a == bool on (x) group_left b => a == BOOL ON (x) GROUP_LEFT b
 sum(count(a)by(b))without(c) => sum without (c) (count by (b) (a)) => sum(count(a) by (b)) without (c)"#;
@@ -39,6 +39,27 @@ fn tokens_have_one_spelling_or_keep_theirs(rt: HostRuntime) {
         let (query, layouts) = columns(row);
         let (layout, kept) = columns(layouts);
         prints(&rt, format_query(alloc, query, &usual), layout);
+        prints(&rt, format_query(alloc, query, &keeping), kept);
+    }
+}
+
+/// A query, its layout with sorted matchers, and its layout where the spelling is kept, too.
+const SORTED: &str = r#"a{c='1',b='2',} => a{b="2",c="1"} => a{c='1',b='2'}
+a{c='1' or b='2',a='3'} => a{c="1" or b="2",a="3"} => a{c='1' or b='2',a='3'}
+{"b",a="1"} => {"b",a="1"} => {"b",a="1"}
+absent(a{b="c",b!~"d"}) => absent(a{b!~"d",b="c"}) => absent(a{b="c",b!~"d"})"#;
+
+#[test]
+fn matchers_are_sorted_where_that_is_asked_for(rt: HostRuntime) {
+    let alloc = rt.alloc();
+    let mut sorting = FormatOptions::new();
+    sorting.sort_matchers = true;
+    let mut keeping = sorting;
+    keeping.keep_spelling = true;
+    for row in SORTED.split('\n') {
+        let (query, layouts) = columns(row);
+        let (layout, kept) = columns(layouts);
+        prints(&rt, format_query(alloc, query, &sorting), layout);
         prints(&rt, format_query(alloc, query, &keeping), kept);
     }
 }
