@@ -13,6 +13,7 @@ formatted by the library of dist/, each with a width and a spelling by chance. O
   that close a list;
 - that it has the comments of the text, in order, with `--keep-spelling` each between the same tokens, but for commas, and formatted again
   is the same;
+- that its matchers are in the order of the text;
 - that no line is wider than asked for, without its comment, where the width is 80 or more and the line has no long token.
 
 The last line is 'N passed, M failed'; the status is 1 where one failed.
@@ -103,6 +104,18 @@ def comments(text: str) -> list[str]:
     return [match.group() for match in TOKEN.finditer(text) if match.lastgroup == "comment"]
 
 
+def matchers(text: str) -> list[str]:
+    """The names and signs between the braces of a text, in order."""
+    found: list[str] = []
+    in_braces = False
+    for match in TOKEN.finditer(text):
+        token = match.group()
+        in_braces = token == "{" or (in_braces and token != "}")
+        if in_braces and match.lastgroup in ("word", "sign") and token != ",":
+            found.append(token.lower() if token.lower() == "or" else token)
+    return found
+
+
 def with_comments(text: str, rng: random.Random) -> str:
     """The text with comments between tokens, outside of brackets."""
     parts: list[str] = []
@@ -136,6 +149,8 @@ def fault(text: str, layout: str | None, again: str | None, keeps: bool, width: 
         return "other comments"
     if again != layout:
         return "formatted again it differs"
+    if matchers(layout) != matchers(text):
+        return "matchers in another order"
     if keeps and tokens(layout) != tokens(text):
         return "other tokens"
     if keeps and pieces(layout) != pieces(text):

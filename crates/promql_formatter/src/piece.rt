@@ -28,7 +28,7 @@ pub(crate) enum Break {
 pub(crate) enum Context {
     /// Expressions with commas between them; the whole text, too.
     Expressions,
-    /// As `Expressions`, of which the last is a call or a selector with matchers, and the others are numbers and strings.
+    /// As `Expressions`, of which there is one: a call, or a selector with matchers.
     Single,
     /// Labels after `by`, `on` and the like.
     Labels,

@@ -174,8 +174,8 @@ impl Structure {
     /// Notes whether the parentheses that end here are those of a call of a single call or selector.
     fn end_call(&mut self, step: &Step) {
         let level = step.level;
-        let is_single = level.is_alone && level.has_bracket && !step.piece.has_comments();
-        if !is_single {
+        let is_single = level.operand == Some(level.bracket.saturating_add(1));
+        if !is_single || !level.has_bracket || step.piece.has_comments() {
             return;
         }
         if let Some(around) = self.levels.last()

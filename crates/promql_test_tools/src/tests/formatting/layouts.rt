@@ -56,7 +56,7 @@ const LAYOUTS: [(&str, usize, &str); 37] = [
     ),
     (
         "topk(1,sum(a)+sum(b))",
-        16,
+        17,
         "topk(\n  1,\n  sum(a) + sum(b)\n)",
     ),
     (
