@@ -1,7 +1,8 @@
 #!/usr/bin/env python3
 """Attacks on what takes texts of others, each within bounds of time and memory, and what they come to: docs/guide/security.md.
 
-usage: bindings/attack.py        by a Python that finds the package promql and, for rule files, ruamel.yaml; with the programs of dist/
+usage: bindings/attack.py            by a Python that finds the package promql and, for rule files, ruamel.yaml; with the programs of dist/
+       bindings/attack.py --files N  large files for the tools for files, every fourth of them: from 0 to 3
 
 Prints what is not tried here, and each attack that comes to something else than is documented. The last line is 'N passed, M failed'.
 bindings/test.sh --attack calls this, and the attacks that are among the tests of the bindings. Servers listen on 127.0.0.1.
@@ -427,7 +428,8 @@ CHECKED_FILES = {
     "labels.yml": (labels(60), 0, "60 rules, no errors"),
     "templates.yml": (RULE + "  - {alert: B, expr: up, annotations: {a: '{{ " + "(" * 100_000 + "'}}\n", 1, "1 rule, 1 error"),
     "parentheses.yml": (RULE + "  - {alert: B, expr: up, annotations: {a: '{{ " + "(" * 9000 + "1" + ")" * 9000 + " }}'}}\n", 1, "nested too"),
-    "actions.yml": (RULE + "  - {alert: B, expr: up, annotations: {a: '" + "{{ 1 }}" * 30_000 + "'}}\n", 0, "no errors"),
+    "actions.yml": (RULE + "  - {alert: B, expr: up, annotations: {a: '" + "{{ 1 }}" * 14_000 + "'}}\n", 0, "no errors"),
+    "more actions.yml": (RULE + "  - {alert: B, expr: up, annotations: {a: '" + "{{ 1 }}" * 30_000 + "'}}\n", 1, "not looked at"),
     "fields.yml": (RULE + "  - alert: B\n    expr: up\n    a: b\n" * 4000, 1, "4000 rules, 4000 errors"),
     "digits.yml": (RULE + f"  - {{alert: B, expr: up, for: {'9' * 5000}m}}\n", 1, "longer than 292 years"),
 }
@@ -459,8 +461,8 @@ def attack_files():
         check("nothing is left beside the files", not list(Path(folder).glob(".promql-*")), os.listdir(folder))
 
 
-def attack_by_large_files():
-    """Files of 1 MiB of one construct, and of as much of it as is looked at: one of the commands looks at each, in turn."""
+def attack_by_large_files(part):
+    """Files of 1 MiB of one construct, and of as much of it as is looked at: every fourth of them, each by one of the commands in turn."""
     if run([sys.executable, "-c", "import ruamel.yaml, yaml; yaml.CSafeLoader"]).status:
         print(f"not tried: large files: {sys.executable} has no ruamel.yaml, or no PyYAML with libyaml")
         return
@@ -469,7 +471,7 @@ def attack_by_large_files():
 
     commands = itertools.cycle((["check"], ["lint"], ["format", "--check"], ["lint", "--fix"], ["check", "--output=json"]))
     with tempfile.TemporaryDirectory() as folder:
-        for (name, text), command in zip(dear_files(), commands):
+        for (name, text), command in itertools.islice(zip(dear_files(), commands), part, None, 4):
             path = Path(folder, name.replace("/", " "))
             path.write_text(text, encoding="utf-8", newline="")
             ran = run([sys.executable, "-m", "promql", *command, path])
@@ -549,7 +551,10 @@ def attack_page():
 
 
 def main():
-    for attack in (attack_by_queries, attack_by_trees, attack_by_stacks, attack_outputs, attack_terminals, attack_files, attack_by_large_files, attack_page):
+    if sys.argv[1:2] == ["--files"]:
+        attack_by_large_files(int(sys.argv[2]))
+        return checks.end()
+    for attack in (attack_by_queries, attack_by_trees, attack_by_stacks, attack_outputs, attack_terminals, attack_files, attack_page):
         attack()
     return checks.end()
 

@@ -4,7 +4,7 @@
 #                                --install first installs by apt-get what is missing of Debian's packages. The last line is
 #                                'N passed, M failed'
 # bindings/test.sh --attack      attacks on the library, the programs of dist/, the Go proxy, the page and the tools for rule files,
-#                                in two minutes (docs/guide/security.md); some of them are among the tests above, and run again
+#                                in five minutes (docs/guide/security.md); some of them are among the tests above, and run again
 # bindings/test.sh --prometheus  compares what queries give before a Prometheus as they are written, printed and enforced, which it
 #                                accepts, and the places of errors, in two minutes (bench/meaning, bench/places, bench/targets), where
 #                                Debian's package prometheus is installed; --install does not install it, since Debian starts a service
@@ -564,7 +564,7 @@ test_dask() {
 
 # Those that are tests of a binding, and the others (bindings/attack.py).
 test_attacks() {
-    local python
+    local python part
     if has "${CC:-cc}" 'small stacks for C'; then
         try 'building the tests for C' build_c
         if [ -x "$work/test_shared" ]; then add 'small stacks for C, among its tests' "$work/test_shared"; fi
@@ -593,6 +593,9 @@ test_attacks() {
         add 'names, labels and templates of rules' unit_tests "$here/python" test_rule_checks.py -k Attacks -k test_deep
         add 'bounds of the tools for files' unit_tests "$here/python" test_bounds.py
         add 'files that fail, and signals' unit_tests "$here/python" test_failures.py
+        for part in 0 1 2 3; do
+            add "large files, every fourth from $part" in_python "$here/python" "$here/attack.py" --files "$part"
+        done
     fi
     add 'attacks on the programs, the library, rule files and the page' in_python "$here/python" "$here/attack.py"
 }

@@ -27,7 +27,7 @@ _SIZE = re.compile(r"patterns are too large: (\d+),", re.ASCII)
 class FileBounds(NamedTuple):
     """What is looked at of a file at most (docs/guide/security.md, "What a file may cost"), by the names of the options that say it."""
 
-    max_file_patterns: int = 100_000
+    max_file_patterns: int = 40_000
     max_file_nodes: int = 50_000
     max_lint_tokens: int = 25_000
     max_exact_yaml: int = 200_000

@@ -8,7 +8,7 @@ import sys
 from dataclasses import replace
 from typing import Any, Iterator, List, Mapping, NamedTuple, Optional, Tuple
 
-from .checked_queries import QueryChecker
+from .checked_queries import Budget, QueryChecker
 from .dashboard_places import JsonPath, is_of_prometheus, is_query, is_variable, query_of_variable, source_of, value_at
 from .files import BLANKS, BoundError, Fault, FileError, Source, counted, nested_too_deeply
 from .grafana_variables import MOST_TEXTS, VARIABLE, read_variables
@@ -139,7 +139,7 @@ def _json_tokens(source: Source, most_values: int) -> Iterator[Tuple[JsonPath, i
     The path has an index for each array that the value is in, and a key for each object; that of all else is empty.
     """
     path: List[Any] = []
-    values = 0
+    budget = Budget(most_values)
     for found in _JSON_TOKEN.finditer(source.text):
         token = found[0]
         place: JsonPath = ()
@@ -150,8 +150,7 @@ def _json_tokens(source: Source, most_values: int) -> Iterator[Tuple[JsonPath, i
         elif path and path[-1] is None:
             path[-1] = json.loads(token)
         else:
-            values += 1
-            if values > most_values:
+            if not budget.takes(1):
                 message = f"the file has more than {most_values:,} values of JSON, up to here (--max-file-nodes)"
                 raise BoundError.of(source, found.start(), message)
             if token in "[{":

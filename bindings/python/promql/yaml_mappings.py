@@ -9,7 +9,7 @@ from .yaml_nodes import Node
 
 Entry = Tuple[Node, Node]
 # More entries than anyone writes: only mappings that merge the same ones again and again have so many.
-_MOST_ENTRIES = 1_000_000
+_MOST_ENTRIES = 200_000
 
 
 class _Mapping(NamedTuple):

@@ -303,6 +303,13 @@ class LargeFiles(unittest.TestCase):
         budget = Budget(5)
         self.assertEqual([budget.takes(amount) for amount in (5, 0, 1, 0)], [True, True, False, False])
 
+    def test_changed(self):
+        """Long parts that change are not compared where there are many of them."""
+        text = RULE + "".join(f"  - {{record: a, expr: {'+'.join(['(a)'] * 230)}+{number}}}\n" for number in range(8))
+        with mock.patch.object(known_looks.LOOKS, "_known", {}):
+            ran = self.ran("a.yml", text, "lint", "--fix")
+        self.assertEqual((ran.status, ran.out), (0, ran.out.partition(": ")[0] + ": 8 rules, 8 queries fixed, no findings\n"))
+
     def test_listed(self):
         """So many errors, warnings and skipped queries of a file are named."""
         ran = self.ran("a.yml", "groups:\n" + "- {}\n" * 10_000, "check")

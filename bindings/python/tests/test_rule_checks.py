@@ -147,7 +147,7 @@ class Attacks(Folder):
         rules = "".join(f"  - {{alert: A{number}, expr: up, labels: {{<<: *m}}}}\n" for number in range(1500))
         ran = run("check", self.file(f"{RULES}  - {{alert: A, expr: up, labels: {{<<: &m [{lists}]}}}}\n{rules}"))
         self.assertEqual((ran.status, ran.out), (2, ""))
-        self.assertIn("its merge keys make more than 1,000,000 entries of it", ran.err)
+        self.assertIn("its merge keys make more than 200,000 entries of it", ran.err)
 
     def test_deep_merges(self):
         text = RULES + "  - {alert: A, expr: up, labels: " + "{<<: " * 90 + "{}" + "}" * 90 + "}\n"

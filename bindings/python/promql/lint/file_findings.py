@@ -9,6 +9,7 @@ from typing import Any, Dict, Iterator, List, NamedTuple, Optional, Sequence, Se
 
 import promql
 
+from ..checked_queries import Budget
 from ..dashboards import Dashboard, JsonString
 from ..documents import Document
 from ..files import BLANKS, Fault, FileError, Source
@@ -27,8 +28,8 @@ from .silence import Comment, Silences
 from .subject import IsWritten, RuleContext, always
 from .table import REJECTED, UNUSED, Selection, known_codes
 
-# A longer part that changed is written whole.
-_LONGEST_COMPARED = 1_000
+# A part that changed is written whole where it is longer, or where such parts of a file, each times what is there instead, are too large.
+_LONGEST_COMPARED, _MOST_COMPARED = 1_000, 250_000
 # More findings than anyone reads of a file.
 MOST_FINDINGS = 5_000
 # For so many rules that differ an alias's query is looked at.
@@ -70,7 +71,7 @@ class FileLinter:
         self._silenced_codes: Dict[int, Set[str]] = {}
         self._unused: List[Comment] = []
         self._fixed_length = 0
-        self._budget = document.checker.lint_tokens
+        self._budget, self._compared = document.checker.lint_tokens, Budget(_MOST_COMPARED)
         self._reads = _MOST_READS
         # The document that a text with fixes was read as.
         self.fixed_document = document
@@ -182,7 +183,8 @@ class FileLinter:
 
     def _places(self, query: Query) -> List[Tuple[RuleContext, int, int]]:
         """The rules that have a query, and where they are."""
-        return [(it.context, it.start, it.end) for it in self._rules_of(query)] or [self._bare(query)]
+        bare = RuleContext(), query.offsets[0], query.offsets[-1]
+        return [(it.context, it.start, it.end) for it in self._rules_of(query)] or [bare]
 
     @staticmethod
     def _is_written(query: Query) -> IsWritten:
@@ -191,10 +193,6 @@ class FileLinter:
             return always
         put_back = variables.put_back
         return lambda part: put_back(part) == part
-
-    @staticmethod
-    def _bare(query: Query) -> Tuple[RuleContext, int, int]:
-        return RuleContext(), query.offsets[0], query.offsets[-1]
 
     def _placed(self, query: Query, finding: Finding) -> FileFinding:
         start, end = (query.offsets[at] for at in finding.span)
@@ -298,7 +296,7 @@ class FileLinter:
     def _edits(self, query: Query, text: str, plainly: bool) -> List[Edit]:
         """What writes another text in the place of a query: edits of the parts that differ, or one of the whole. There is none of a whole
         query with variables, since others stand there for them."""
-        plain = self._plain_edits(query, _changed_parts(query.text, text)) if plainly or query.variables else None
+        plain = self._plain_edits(query, _changed_parts(query.text, text, self._compared)) if plainly or query.variables else None
         if plain is None:
             return [] if query.variables else [query.spelling.edit(text)]
         return plain
@@ -328,13 +326,13 @@ def _with_variables(query: Query, text: str) -> str:
     return query.variables.put_back(text) if query.variables else text
 
 
-def _changed_parts(old: str, new: str) -> List[TextEdit]:
+def _changed_parts(old: str, new: str, budget: Budget) -> List[TextEdit]:
     """The parts of a text that differ from a new one."""
     first = next((at for at, pair in enumerate(zip(old, new)) if pair[0] != pair[1]), min(len(old), len(new)))
     rest = min(len(old), len(new)) - first
     last = next((at for at in range(rest) if old[-1 - at] != new[-1 - at]), rest)
     before, after = old[first : len(old) - last], new[first : len(new) - last]
-    if max(len(before), len(after)) > _LONGEST_COMPARED:
+    if max(len(before), len(after)) > _LONGEST_COMPARED or not budget.takes(len(before) * len(after)):
         return [TextEdit(first, first + len(before), after)]
     parts = SequenceMatcher(None, before, after, autojunk=False).get_opcodes()
     return [TextEdit(first + it[1], first + it[2], after[it[3] : it[4]]) for it in parts if it[0] != "equal"]

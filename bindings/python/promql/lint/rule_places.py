@@ -3,7 +3,7 @@
 from __future__ import annotations
 
 import re
-from typing import Dict, FrozenSet, Iterable, Iterator, List, NamedTuple, Optional, Set, Tuple
+from typing import Dict, FrozenSet, Iterator, List, NamedTuple, Optional, Set, Tuple
 
 from ..rule_checks import DURATION, MILLISECONDS, mappings_in
 from ..rule_documents import Kind
@@ -47,16 +47,8 @@ class RulePlaces(NamedTuple):
 def rules_of(file: RuleFile) -> RulePlaces:
     """The rules of a file that have queries. Each is there once for all its aliases in groups of one interval."""
     documents = [it for it in file.documents if it.kind is Kind.RULES]
-    groups = list(_once(group for it in documents for group in it.groups(file.mappings) if group.kind == "mapping"))
-    return _Reader(file.mappings, groups).read()
-
-
-def _once(nodes: Iterable[Node]) -> Iterator[Node]:
-    seen: Set[int] = set()
-    for node in nodes:
-        if id(node) not in seen:
-            seen.add(id(node))
-            yield node
+    groups = {id(group): group for it in documents for group in it.groups(file.mappings) if group.kind == "mapping"}
+    return _Reader(file.mappings, list(groups.values())).read()
 
 
 class _Reader:

@@ -92,12 +92,9 @@ class Subject:
     @cached_property
     def matched(self) -> List[Tuple[Tree, Labels, Labels]]:
         """Each operator between two vectors, with the labels of both."""
-        found = []
-        for node in self.of_type("binaryExpr"):
-            left, right = node["lhs"], node["rhs"]
-            if not self.labels.is_scalar(left) and not self.labels.is_scalar(right):
-                found.append((node, self.labels.of(left), self.labels.of(right)))
-        return found
+        flow = self.labels
+        nodes = (it for it in self.of_type("binaryExpr") if not flow.is_scalar(it["lhs"]) and not flow.is_scalar(it["rhs"]))
+        return [(node, flow.of(node["lhs"]), flow.of(node["rhs"])) for node in nodes]
 
     @cached_property
     def _parents(self) -> Dict[int, Tree]:

@@ -99,14 +99,12 @@ class Rule(NamedTuple):
         return self._replace(start=self.start + by, end=self.end + by, record_start=places[0], record_end=places[1])
 
 
-@lru_cache(maxsize=1)
-def file_of(text: str) -> RuleFile:
-    """A rule file. (It is often asked for again: a text is laid out that was read before.)"""
-    return read_file(text)
-
-
 def read_file(text: str) -> RuleFile:
     return RuleFile(Source(NAME, text, ""))
+
+
+# (a text is laid out that was read before)
+file_of = lru_cache(maxsize=1)(read_file)
 
 
 def read_rules(text: str) -> List[Rule]:
@@ -116,7 +114,9 @@ def read_rules(text: str) -> List[Rule]:
 
 def rules_of(file: RuleFile) -> List[Rule]:
     text = file.source.text
-    queries = sorted((query for query in file.queries if not query.skipped), key=lambda query: query.offsets[0])
+    # (what is in a query tells the library, which compiles its patterns)
+    queries = [query for query in file.queries if not query.skipped and file.checker.admits(query.text)]
+    queries.sort(key=lambda query: query.offsets[0])
     found: List[Rule] = []
     used = 0
     for node in sorted(file.rules(), key=lambda rule: rule.start):
