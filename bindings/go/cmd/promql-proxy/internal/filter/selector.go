@@ -12,8 +12,8 @@ import (
 var ErrSteps = errors.New("the patterns are too large for so many rules")
 
 // The most steps that the patterns of a request may take: each byte of a value is one for each instruction of the program of a pattern. They
-// take half a second.
-const maxSteps = 20_000_000
+// take a quarter of a second.
+const maxSteps = 10_000_000
 
 // Selectors are selectors of rules.
 type Selectors struct {
