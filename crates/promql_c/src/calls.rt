@@ -5,7 +5,7 @@ ghost use Rattle.promql_c.specs.declared.calls.TheConstants.{SORTED_MATCHERS};
 ghost use Rattle.promql_c.specs.CallResults.{Shows, ShowsSome};
 ghost use Rattle.promql_c.specs.Calls.{IsEnforceOf, IsExplainOf, IsFormattedOf, IsPrintOf, IsRenameOf, IsSnippetOf, IsTextOf, IsTokensOf, IsTreePrintOf};
 ghost use Rattle.promql_c.specs.CollectedTexts.{IsCollectedText};
-ghost use Rattle.promql_c.specs.Formats.{format_numbered, mode_numbered, named_numbered};
+ghost use Rattle.promql_c.specs.Formats.{format_numbered, format_options, mode_numbered, named_numbered};
 ghost use Rattle.promql_c.specs.PartsText.{IsPartsText};
 ghost use Rattle.promql_c.specs.PlacesText.{IsPlacesText};
 
@@ -193,6 +193,31 @@ pub fn print_tree(
 /// What asks `format` for sorted matchers.
 pub const SORTED_MATCHERS: u32 = 2;
 
+/// Whether all is to stay as it is written.
+fn keeps_spelling(spelling: u32) -> bool
+    ensures { result ≡ not (spelling == 0 || spelling == SORTED_MATCHERS) }
+{
+    spelling != 0 && spelling != SORTED_MATCHERS
+}
+
+/// How a query is laid out.
+fn format_options(
+    limits: &Limits,
+    width: usize,
+    indent_width: usize,
+    spelling: u32,
+) -> FormatOptions
+    ensures { result ≡ format_options limits.now width indent_width spelling }
+{
+    FormatOptions {
+        width,
+        indent_width,
+        keep_spelling: keeps_spelling(spelling),
+        sort_matchers: spelling == SORTED_MATCHERS,
+        max_output: limits.max_output,
+    }
+}
+
 /// Lays a query out for people (docs/reference/formatting.md): comments stay, and chains of operators are flat. Lines have at most
 /// `width` characters where they can be broken, and indentations of `indent_width` spaces, at most 65,535 and 16. Where `spelling` is 0, numbers,
 /// durations and strings are spelled in one way; where it is `SORTED_MATCHERS`, matchers are sorted, too; else all stays as it is written.
@@ -205,21 +230,10 @@ pub fn format(
     spelling: u32,
     buffer: &mut [u8],
 ) -> CallResult
-    ensures { ShowsSome (IsFormattedOf limits.now (record {
-      width = width;
-      indent_width = indent_width;
-      keep_spelling = not (spelling == 0 || spelling == SORTED_MATCHERS);
-      sort_matchers = spelling == SORTED_MATCHERS;
-      max_output = limits.now.max_output;
-    }) query.now) result buffer.old buffer.new }
+    ensures { ShowsSome (IsFormattedOf limits.now (format_options limits.now width indent_width spelling) query.now)
+        result buffer.old buffer.new }
 {
-    let options = FormatOptions {
-        width,
-        indent_width,
-        keep_spelling: spelling != 0 && spelling != SORTED_MATCHERS,
-        sort_matchers: spelling == SORTED_MATCHERS,
-        max_output: limits.max_output,
-    };
+    let options = format_options(limits, width, indent_width, spelling);
     let made = format_bytes(alloc, limits, &options, query);
     show(alloc, made, buffer)
 }

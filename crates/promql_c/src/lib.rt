@@ -2,15 +2,14 @@
 //! name by which bindings/c/promql.c calls it, once it has looked at the pointers.
 #![tactic(auto)]
 
-ghost use Rattle.std.specs.Prelude.{◌≡◌, ◌==◌, ◌||◌, [], not, Some, Ok};
-ghost use Rattle.promql_c.specs.declared.calls.TheConstants.{SORTED_MATCHERS};
+ghost use Rattle.std.specs.Prelude.{◌≡◌, ◌==◌, [], not, Some, Ok};
 ghost use Rattle.promql_run.specs.declared.format.Format.TheVariants.{Line};
 ghost use Rattle.promql_c.specs.CallResults.{Shows, ShowsSome};
 ghost use Rattle.promql_span.specs.Targets.{for_rules};
 ghost use Rattle.promql_c.specs.CallLimits.{limits_of};
 ghost use Rattle.promql_c.specs.Calls.{IsEnforceOf, IsExplainOf, IsFormattedOf, IsPrintOf, IsRenameOf, IsSnippetOf, IsTextOf, IsTokensOf, IsTreePrintOf};
 ghost use Rattle.promql_c.specs.CollectedTexts.{IsCollectedText};
-ghost use Rattle.promql_c.specs.Formats.{format_numbered, mode_numbered, named_numbered};
+ghost use Rattle.promql_c.specs.Formats.{format_numbered, format_options, mode_numbered, named_numbered};
 ghost use Rattle.promql_c.specs.PartsText.{IsPartsText};
 ghost use Rattle.promql_c.specs.PlacesText.{IsPlacesText};
 ghost use Rattle.promql_lines.specs.declared.mode.Mode.TheVariants.{Plain};
@@ -251,13 +250,8 @@ pub extern "C" fn call_format(
     buffer: &mut [u8],
     shown: &mut CallResult,
 )
-    ensures { ShowsSome (IsFormattedOf (limits_of limits.now) (record {
-      width = width;
-      indent_width = indent_width;
-      keep_spelling = not (spelling == 0 || spelling == SORTED_MATCHERS);
-      sort_matchers = spelling == SORTED_MATCHERS;
-      max_output = (limits_of limits.now).max_output;
-    }) query.now) shown.new buffer.old buffer.new }
+    ensures { ShowsSome (IsFormattedOf (limits_of limits.now) (format_options (limits_of limits.now) width indent_width spelling) query.now)
+        shown.new buffer.old buffer.new }
 {
     *shown = calls::format(
         alloc,
