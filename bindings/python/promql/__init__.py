@@ -15,11 +15,23 @@ from __future__ import annotations
 
 import json
 from functools import cached_property
+from importlib import import_module
 from operator import index
-from typing import Any, Dict, Iterable, List, Mapping, NamedTuple, Optional, Tuple, Type, Union
+from typing import TYPE_CHECKING, Any, Dict, Iterable, List, Mapping, NamedTuple, Optional, Tuple, Type, Union
 
 from ._answers import Answer, Failure, Mode, Named, Status, Target
 from ._calls import calls as _caller
+
+if TYPE_CHECKING:
+    from . import tree
+else:
+
+    def __getattr__(name: str) -> Any:
+        """Imports the module of trees when it is asked for, which takes longer than all else here."""
+        if name == "tree":
+            return import_module("promql.tree")
+        raise AttributeError(f"module 'promql' has no attribute '{name}'")
+
 
 __all__ = [
     "BareInfoError",
@@ -56,9 +68,15 @@ __all__ = [
     "set_limits",
     "set_target",
     "tokens",
+    "tree",
     "version",
 ]
 __version__ = "0.5.0"
+
+
+def __dir__() -> List[str]:
+    return [*__all__, "__version__"]
+
 
 # Of these errors the library has more to say than each call does.
 _EXPLAINED = ("invalid promql query", "expression nested too deeply")

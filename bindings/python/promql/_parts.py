@@ -42,6 +42,12 @@ class Matcher(Node):
     op: MatchOp
     value: str
 
+    def __str__(self) -> str:
+        """Its text, as in a selector that has it. Raises NodeError where such a selector has none."""
+        from ._printing import text_of_matcher
+
+        return text_of_matcher(self)
+
     def to_json(self) -> Dict[str, Any]:
         return {"name": self.name, "type": self.op, "value": self.value}
 
@@ -93,6 +99,13 @@ class Matching(Node):
     card: Cardinality = "one-to-one"
     fill_left: Optional[str] = None
     fill_right: Optional[str] = None
+
+    def __str__(self) -> str:
+        """Its text, as after the operator of an expression that has it, which may be none. Raises NodeError where such an expression has no
+        text."""
+        from ._printing import text_of_matching
+
+        return text_of_matching(self)
 
     def to_json(self) -> Dict[str, Any]:
         card: Any = self.card

@@ -11,7 +11,8 @@ from ._answers import Answer, Mode
 from ._calls import calls
 from ._members import FormError, Members
 from ._node_faults import first_without_text, node_at, path_of, places_in
-from ._nodes import KINDS, Aggregation, Call, Expr
+from ._nodes import KINDS, Aggregation, Binary, Call, Expr, Selector
+from ._parts import Matcher, Matching
 from .forms import Form
 
 
@@ -95,6 +96,18 @@ def tree_of(form: object) -> Expr:
 
 def line_of(tree: Expr) -> str:
     return _printed(tree, Mode.LINE, 0, 0)
+
+
+def text_of_matcher(matcher: Matcher) -> str:
+    """(A selector with a name has no other matcher of `__name__`. What is after the label is the same for each label.)"""
+    if matcher.name == "__name__":
+        return matcher.name + text_of_matcher(matcher.replace(name="a"))[1:]
+    return line_of(Selector("x", (matcher,)))[2:-1]
+
+
+def text_of_matching(matching: Matching) -> str:
+    operator = "and" if matching.card == "many-to-many" else "+"
+    return line_of(Binary(Selector("x"), operator, Selector("y"), matching=matching))[len(f"x {operator} ") : -2]
 
 
 def layout_of(tree: Expr, width: int, level: int) -> str:

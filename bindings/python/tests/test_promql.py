@@ -3,6 +3,7 @@
 import os
 import pickle
 import random
+import sys
 import threading
 import unittest
 from pathlib import Path
@@ -43,6 +44,12 @@ REJECTED = (
 
 
 class Texts(unittest.TestCase):
+    def test_names(self):
+        self.assertEqual({*dir(promql)}, {*promql.__all__, "__version__"})
+        self.assertIs(promql.tree, sys.modules["promql.tree"])
+        with self.assertRaises(AttributeError):
+            promql.nothing
+
     def test_canonical(self):
         self.assertEqual(promql.canonical("sum(foo{b='1',a=\"2\"}) > .50"), 'sum(foo{a="2",b="1"}) > 0.5')
         self.assertEqual(promql.canonical("{a='é'}or b"), '{a="é"} or b')

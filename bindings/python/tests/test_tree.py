@@ -278,6 +278,23 @@ class Texts(unittest.TestCase):
         self.assertEqual(str(Subquery(total, 60_000)), "(a + b)[1m:]")
         self.assertEqual(str(Aggregation("sum", total)), "sum(a + b)")
 
+    def test_parts(self):
+        for text in ('a="b"', 'a!=""', '"a b"=~"c.*"', '__name__="up"', '__name__!~"a|b"', r'a="\""'):
+            (matcher,) = tree.parse("{%s,z='z'}" % text).matchers[:1]
+            self.assertEqual(str(matcher), text)
+        self.assertEqual((str(tree.Matching()), str(tree.Matching(card="many-to-many"))), ("", ""))
+        for text in ("on ()", "on (a, b) group_left (c)", 'ignoring ("a b")', "ignoring () group_right ()", "on () fill_left (1)"):
+            self.assertEqual(str(tree.parse(f"x * {text} y").matching), text)
+        self.assertEqual(str(tree.parse("x unless on (a) y").matching), "on (a)")
+        for part, message in (
+            (tree.Matcher("a", "=~", "(("), "$.matchers[0].value: a pattern"),
+            (tree.Matcher("__name__", "==", "b"), '$.matchers[0].type: =, !=, =~ or !~'),
+            (tree.Matching(on=True, card="many-to-any"), "$.matching.card"),
+        ):
+            with self.assertRaises(tree.NodeError) as caught:
+                str(part)
+            self.assertIn(message, str(caught.exception))
+
     def test_layouts(self):
         expr = tree.parse("sum by (job) (rate(foo[5m]))")
         self.assertEqual(expr.pretty(width=20, level=1), promql.pretty(str(expr), width=20, level=1))
