@@ -109,6 +109,7 @@ install_missing() {
     compgen -G '/usr/share/cargo/registry/serde_json-1.*' >/dev/null || missing+=(librust-serde-json-dev)
     command -v cc >/dev/null || missing+=(gcc libc6-dev)
     command -v valgrind >/dev/null || missing+=(valgrind)
+    command -v musl-gcc >/dev/null || missing+=(musl-tools)
     command -v make >/dev/null || missing+=(make)
     command -v groff >/dev/null || missing+=(groff)
     command -v fish >/dev/null || missing+=(fish)
@@ -230,10 +231,33 @@ test_c() {
     fi
     if has python3 'rows and broken texts for C'; then test_rows_in_c; fi
     if has_sanitizers 'the tests for C with sanitizers'; then test_sanitized; fi
+    if has musl-gcc 'the library with musl'; then test_musl; fi
     has cmake 'the project of CMakeLists.txt' || return
     try 'the project of CMakeLists.txt' build_project
     has pkg-config 'the file promql.pc' || return
     try 'the file promql.pc' find_installed
+}
+
+build_with_musl() {
+    musl-gcc -static -std=c11 -O2 -Wall -Wextra -Wpedantic -Werror -I"$dist" -o "$work/test_musl" "$here/c/tests/test_promql.c" \
+        "$dist/libpromql.a" -Wl,-z,stack-size=2097152
+}
+
+# with_stack KIB COMMAND..: runs it with a first stack of that size, of which 100 KiB are the environment.
+with_stack() {
+    local filler
+    ulimit -s "$1" && printf -v filler '%0100000d' 0 && filler=$filler "${@:2}"
+}
+
+test_musl() {
+    try 'building the tests for C with musl' build_with_musl
+    [ -x "$work/test_musl" ] || return
+    add 'C with musl' "$work/test_musl"
+    for size in 600 1000 1280; do add "C with musl and $size KiB of stack" with_stack $size "$work/test_musl" stack small; done
+    for size in 1500 4096 unlimited; do add "C with musl and $size KiB of stack" with_stack $size "$work/test_musl" stack large; done
+    [ -f "$work/calls" ] || return
+    add 'broken texts for C with musl' "$work/test_musl" random "$work/calls" 10000 4
+    try 'rows for C with musl, and again in two threads' "$work/test_musl" rows "$work/calls" 2
 }
 
 test_rows_in_c() {
@@ -647,7 +671,7 @@ test_editor() {
     fi
 }
 
-export -f shows_own_names build_c bench_prints example_prints build_sanitized overrun_is_reported under_valgrind build_project
+export -f shows_own_names build_c bench_prints example_prints build_sanitized overrun_is_reported build_with_musl with_stack under_valgrind build_project
 export -f find_installed in_python unit_tests print_counts print_cargo_counts sizes_have_each_crate
 export debian_crates
 export -f formatted_rust formatted_go checked_by_shellcheck in_cargo cargo_tests cargo_tests_with_serde build_rust cache_keys in_go go_tests

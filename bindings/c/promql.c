@@ -6,6 +6,13 @@
 #include <errno.h>
 #include <pthread.h>
 #include <stdatomic.h>
+#ifdef __linux__
+#include <string.h>
+#include <sys/auxv.h>
+#include <sys/resource.h>
+#include <sys/syscall.h>
+#include <unistd.h>
+#endif
 
 /* The limits of each call. */
 static atomic_size_t max_len = 32768;
@@ -89,7 +96,32 @@ static uint32_t refuse(uint32_t status, struct promql_result *result)
     return status;
 }
 
-#ifdef __GLIBC__
+#ifdef __linux__
+/* The first thread of the process, if the library was there when it began. */
+static pthread_t first_thread;
+static int has_first_thread;
+
+__attribute__((constructor)) static void note_first_thread(void)
+{
+    first_thread = pthread_self();
+    has_first_thread = syscall(SYS_gettid) == getpid();
+}
+
+/* Where the stack of the first thread may grow to, which has grown to `start`. glibc has told it. Of musl and others it is not known:
+ * the limit counts from the end of the stack, and the last text there is the program's name. */
+static uintptr_t growing_start(uintptr_t start)
+{
+    const char *name = (const char *)getauxval(AT_EXECFN);
+    struct rlimit limit;
+    if (confstr(_CS_GNU_LIBC_VERSION, NULL, 0) != 0 || !has_first_thread || !pthread_equal(first_thread, pthread_self()) ||
+        name == NULL || getrlimit(RLIMIT_STACK, &limit) != 0)
+        return start;
+    uintptr_t end = (((uintptr_t)name + strlen(name)) | 4095) + 1;
+    /* (the kernel leaves so much free below it where there is no limit) */
+    uintptr_t size = limit.rlim_cur < 128 << 20 ? limit.rlim_cur : 128 << 20;
+    return end - size < start ? end - size : start;
+}
+
 /* The lowest byte of this thread's stack and the byte after its last one, once they were asked for. By this model a thread has them
  * from its beginning: else the first call of a thread would allocate them where the library was loaded later, and end the process
  * where there is no memory. */
@@ -106,8 +138,8 @@ static int ask_for_stack(void)
     error = pthread_attr_getstack(&attributes, &start, &size);
     pthread_attr_destroy(&attributes);
     if (error == 0) {
-        stack_start = (uintptr_t)start;
-        stack_end = stack_start + size;
+        stack_start = growing_start((uintptr_t)start);
+        stack_end = (uintptr_t)start + size;
     }
     return error;
 }

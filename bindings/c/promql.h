@@ -14,9 +14,8 @@
  * `result.length` are never written.
  *
  * A call about a query asks how much stack its thread has left, and does nothing where that is fewer than PROMQL_STACK bytes. It
- * asks the system for the bounds of the stack in the first call of a thread. They are not known where the library was built
- * without glibc, where /proc is not mounted (for the first thread alone), and on a stack that is not the thread's own, such as a
- * coroutine's. There the caller sees to as many bytes.
+ * asks the system for the bounds of the stack in the first call of a thread. They are not known on a stack that is not the thread's
+ * own, such as a coroutine's, and to glibc for the first thread where /proc is not mounted. There the caller sees to as many bytes.
  *
  * The caller sees to this: `buffer` and `*result` do not overlap each other or the texts that are passed; malloc, realloc and free come
  * from one allocator; no call is made from a signal handler, or in the child of a fork of a process with threads; the limit of the

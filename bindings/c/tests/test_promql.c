@@ -4,6 +4,7 @@
  *     test_promql rows FILE [THREADS]      makes the calls of a file and prints what each gives (bindings/rows.py has the format);
  *                                          with THREADS, that many threads make all of them again and get the same
  *     test_promql random FILE COUNT SEED   makes COUNT broken texts of the queries of such a file, and calls with each
+ *     test_promql stack small|large        makes each call in the first thread, whose stack `ulimit -s` has made small or large
  *
  * Without `rows` the last line is 'N passed, M failed'. */
 #include "promql.h"
@@ -696,6 +697,18 @@ static void test_small_stacks(void)
     free(query);
 }
 
+static void test_first_stack(int has_room)
+{
+    char *query = allocate(4096);
+    for (size_t number = 0; number < DEEP_QUERIES; number++) {
+        put_deep(number, query);
+        struct small_stack stack = {query, has_room, 0};
+        call_on_small_stack(&stack);
+        CHECK(stack.is_good);
+    }
+    free(query);
+}
+
 /* ---- calls of a file */
 
 struct requests {
@@ -934,6 +947,8 @@ int main(int argc, char **argv)
         return run_rows(argv[2], argc > 3 ? (size_t)atol(argv[3]) : 0);
     if (argc == 5 && strcmp(argv[1], "random") == 0) {
         test_random(argv[2], atol(argv[3]), (uint64_t)atol(argv[4]));
+    } else if (argc == 3 && strcmp(argv[1], "stack") == 0) {
+        test_first_stack(strcmp(argv[2], "large") == 0);
     } else {
         test_longest_query(); /* first, before any call sets the limits */
         test_texts();
