@@ -3,7 +3,6 @@
 from __future__ import annotations
 
 import re
-import sys
 from contextlib import contextmanager
 from typing import Dict, Iterable, Iterator, List, NamedTuple, Optional, Sequence, Set
 
@@ -46,7 +45,7 @@ class Budget:
         return self._left >= 0
 
 
-NO_BOUND = Budget(sys.maxsize)
+NO_BOUND = Budget(2**63)
 
 
 @contextmanager
@@ -119,6 +118,8 @@ class QueryChecker:
         self.lint_tokens = Budget(bounds.max_lint_tokens)
         self.exact_yaml = Budget(bounds.max_exact_yaml)
         self.variables = Budget(_MOST_VARIABLES)
+        # Of YAML, with those of the texts that are files.
+        self.nodes_left = bounds.max_file_nodes
         self._most = bounds.max_file_patterns
         self._size = 0
         self._counted: Set[str] = set()

@@ -109,7 +109,6 @@ class Dashboard:
         text = _substituted(text, variables)
         if skipped or not VARIABLE.search(text.text):
             return Query(text.text, [*text.offsets, *offsets], string, skipped, is_unread=skipped == _UNKNOWN_SOURCE)
-        # (a query with more variables is not read with them)
         if not self.checker.variables.takes(min(len(VARIABLE.findall(text.text)), MOST_TEXTS)):
             message = f"the queries of the file have more than {self.checker.variables.most:,} variables of Grafana, up to here"
             raise BoundError.of(self.source, string.start, message)

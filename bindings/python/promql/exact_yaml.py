@@ -90,14 +90,9 @@ def look_for_reader() -> None:
         raise FileError("rule files need ruamel.yaml: install python3-ruamel.yaml, or `pip install ruamel.yaml`")
 
 
-def _yaml() -> Any:
-    look_for_reader()
-    return importlib.import_module("ruamel.yaml")
-
-
 def _compose(source: Source, text: ExactYaml) -> List[Any]:
     """The nodes of each document of a file, whose tokens the text is told of."""
-    yaml = _yaml()
+    yaml: Any = importlib.import_module("ruamel.yaml")
     reader = yaml.YAML(typ="safe", pure=True)
     reader.Scanner = _noting_scanner(yaml, text)
     try:

@@ -14,7 +14,7 @@ import promql
 
 from .checked_queries import QueryChecker, limited_to
 from .documents import Document, Skipped, Status, read_document
-from .files import BLANKS, STDIN, FileError, write_file
+from .files import BLANKS, STDIN, BoundError, FileError, write_file
 from .jobs import Report, add_arguments, as_bytes, bounds_of, skipped_file, work_on
 from .messages import ERROR, KEPT, LAYOUT, REJECTED, RULE, WARNING, Message, in_order, kind_of_skipped, left_out, of_error, of_file, placed
 from .options import PEOPLE, PRETTY, STYLES, WIDTH, whole_number
@@ -232,6 +232,8 @@ def _formatted(document: Document, printer: Printer, changes: List[Tuple[Query, 
 def _reads_as(document: Document, text: str, same_query: SameQuery) -> bool:
     try:
         return document.same(text, same_query)
+    except BoundError:
+        raise
     except (FileError, ValueError, RecursionError):
         return False
 

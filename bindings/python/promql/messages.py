@@ -14,8 +14,7 @@ SEVERITIES = INFO, WARNING, ERROR = ("info", "warning", "error")
 # since it is something else, a query that is laid out otherwise or stays as it is, and a run that found no query.
 RULE, FILE, UNREAD, SKIPPED, LAYOUT, KEPT, EMPTY = "rule", "file", "unread", "skipped", "layout", "kept", "empty"
 REJECTED = "P001"
-# Of a file so many places at most are named that are not looked at, and so many errors, so many warnings, and so many queries that are
-# skipped.
+# Of a file so many places are named that are not looked at, and so many errors, warnings, and skipped queries.
 MOST_UNREAD = 100
 MOST_LISTED = 5_000
 DESCRIPTIONS = {

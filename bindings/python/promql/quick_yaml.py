@@ -34,7 +34,7 @@ _VALUE = re.compile(r"[ \r\n]*:")
 
 
 class Unclear(Exception):
-    """The quick reader does not take this text: where it is so, and why."""
+    """The quick reader does not take this text: where it is so, and why; there is none where it says nothing."""
 
     def __init__(self, at: int = 0, why: str = "libyaml may read this otherwise") -> None:
         self.at, self.why = at, why
@@ -46,7 +46,7 @@ class QuickYaml:
     def __init__(self, source: Source, most_nodes: int = FileBounds().max_file_nodes) -> None:
         loader = _loader()
         if not loader:
-            raise Unclear(0, "there is no PyYAML with libyaml here")
+            raise Unclear(0, "")
         directive = _DIRECTIVE.match(source.text)
         unusual = _UNUSUAL.search(source.text, directive.end() if directive else 0)
         if unusual:
@@ -55,6 +55,7 @@ class QuickYaml:
         composer = _Composer(source, most_nodes)
         self.roots = composer.documents(loader)
         self.has_aliases = composer.has_aliases
+        self.nodes_left = composer.nodes_left
         if "\t" in source.text and not _are_clear_tabs(source.text, composer.scalars):
             raise Unclear(source.text.index("\t"))
 
@@ -78,7 +79,6 @@ class QuickYaml:
         return Token(start, before, value.in_flow)
 
 
-# (a text with fixes is read twice: to compare it, and to look at it)
 quick_yaml = lru_cache(maxsize=1)(QuickYaml)
 
 
@@ -141,7 +141,7 @@ class _Composer:
     def __init__(self, source: Source, most_nodes: int) -> None:
         self._source = source
         self._text = source.text
-        self._most = self._left = most_nodes
+        self._most = self.nodes_left = most_nodes
         self._roots: List[Node] = []
         self._anchors: Dict[str, Node] = {}
         # The nodes of the collections that are not at their end yet, the outermost ones first, and the collections.
@@ -201,8 +201,8 @@ class _Composer:
         return node
 
     def _put(self, node: Node, at: int) -> None:
-        self._left -= 1
-        if self._left < 0:
+        self.nodes_left -= 1
+        if self.nodes_left < 0:
             message = f"the file has more than {self._most:,} nodes of YAML, up to here (--max-file-nodes)"
             raise BoundError.of(self._source, at, message)
         self._items[-1].append(node)

@@ -11,10 +11,10 @@ from itertools import islice
 from typing import Any, Callable, Dict, Iterator, List, Optional, Set, Tuple, Union
 
 from . import limits
-from .checked_queries import QueryChecker
+from .checked_queries import NO_BOUND, QueryChecker
 from .dashboards import Dashboard
 from .exact_yaml import ExactYaml, look_for_reader
-from .files import Fault, FileError, Source, counted, nested_too_deeply
+from .files import BoundError, Fault, FileError, Source, counted, nested_too_deeply
 from .placed_files import PlacedFile
 from .queries import Query, SameQuery
 from .quick_yaml import QuickYaml, Unclear, quick_yaml
@@ -62,20 +62,25 @@ class RuleFile:
         self.source = source
         self.checker = checker or QueryChecker()
         try:
-            self._parts = _Parts(source, quick_yaml(source, self.checker.bounds.max_file_nodes))
+            yaml = quick_yaml(source, self.checker.nodes_left)
+            self.checker.nodes_left = yaml.nodes_left
+            self._parts = _Parts(source, yaml)
         except Unclear as unclear:
+            # (where there is no quick reader, the other one reads all files)
+            self.checker.exact_yaml = self.checker.exact_yaml if unclear.why else NO_BOUND
             self._parts = _Parts(source, ExactYaml(source, self.checker.exact_yaml, unclear))
         # The files that are texts of this one.
         self.texts: List[PlacedFile] = []
         for name, text, offsets in self._parts.texts if has_texts else ():
             self._take_text(name, Source(source.name, text, ""), offsets)
+        self.mappings, self.documents, self.rule_count = self._parts.mappings, self._parts.documents, self._parts.rules
         self.queries = self._parts.queries
         self.faults = self._parts.faults
         self.notes = self._parts.notes
         self.unread = self._parts.unread
-        self.is_known = any(is_surely_of_rules(document, self._parts.mappings) for document in self._parts.documents)
+        self.is_known = any(is_surely_of_rules(document, self.mappings) for document in self.documents)
         # (a key `groups` is one of other tools as well, but not with queries)
-        self.is_known |= "expr" in source.text and any(it.kind is Kind.RULES for it in self._parts.documents)
+        self.is_known |= "expr" in source.text and any(it.kind is Kind.RULES for it in self.documents)
 
     def _take_text(self, name: str, text: Source, offsets: List[int]) -> None:
         """Reads a file that is a text of this one."""
@@ -84,7 +89,10 @@ class RuleFile:
             file = Dashboard(text, None, self.checker) if is_board(name) else RuleFile(text, self.checker, has_texts=False)
         except FileError as error:
             at, end = error.span or (0, 0)
-            self._parts.faults.append(Fault(offsets[at], offsets[end], f"in the text `{name}`: {error.reason}"))
+            fault = Fault(offsets[at], offsets[end], f"in the text `{name}`: {error.reason}")
+            if isinstance(error, BoundError):
+                raise BoundError.at(self.source, fault) from error
+            self._parts.faults.append(fault)
             return
         placed = PlacedFile(file, offsets)
         self.texts.append(placed)
@@ -92,18 +100,6 @@ class RuleFile:
         self._parts.faults += placed.faults(file.faults)
         self._parts.unread += placed.faults(file.unread)
         self._parts.rules += file.rule_count if isinstance(file, RuleFile) else 0
-
-    @property
-    def rule_count(self) -> int:
-        return self._parts.rules
-
-    @property
-    def mappings(self) -> Mappings:
-        return self._parts.mappings
-
-    @property
-    def documents(self) -> List[RuleDocument]:
-        return self._parts.documents
 
     def rules(self) -> Iterator[Node]:
         """The mapping of each rule of Prometheus, once for all its aliases."""
@@ -115,10 +111,6 @@ class RuleFile:
                 if rule.kind == "mapping" and id(rule) not in seen:
                     seen.add(id(rule))
                     yield rule
-
-    def value(self, rule: Node, key: str) -> Optional[Node]:
-        """What a rule has under a key."""
-        return self._parts.mappings.value(rule, key)
 
     def summary(self) -> str:
         parts = self._parts

@@ -35,11 +35,8 @@ class Node:
     def is_scalar(self) -> bool:
         return self.kind == "scalar"
 
-    def is_key(self, key: str) -> bool:
-        return self.kind == "scalar" and bool(self.value == key)
-
     def is_plain(self, text: str) -> bool:
-        return self.is_key(text) and not self.style
+        return self.kind == "scalar" and bool(self.value == text) and not self.style
 
     def is_merge(self) -> bool:
         return self.is_plain("<<")

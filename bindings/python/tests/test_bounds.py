@@ -266,6 +266,13 @@ class LargeFiles(unittest.TestCase):
         for text in ("[" + "a," * 200_000 + "]", "- {}\n" * 150_000, "---\n" * 200_000):
             self.assert_refused("a.yml", text, "more than 50,000 nodes of YAML")
 
+    def test_texts(self):
+        """The nodes of files that are texts are those of the file, too."""
+        texts = "".join(f"  a{number}.yml: 'groups: [{{rules: [{{record: a, expr: b}}]}}]'\n" for number in range(20_000))
+        ran = self.ran("a.yml", "apiVersion: v1\nkind: ConfigMap\ndata:\n" + texts[: texts.index("  a15000")], "check")
+        self.assertEqual((ran.status, ran.out), (2, ""))
+        self.assertRegex(ran.err, r"/a.yml:\d+:\d+: in the text `a\d+.yml`: not looked at: the file has more than \d+ nodes of YAML, up to here")
+
     def test_nodes_in_the_editor(self):
         rules, problems = problems_of(RULE + "  - {record: a, expr: b}\n" * 20_000)
         self.assertEqual((rules, [(it.start > 200_000, it.message[:13]) for it in problems]), (None, [(True, "not looked at")]))
@@ -281,7 +288,9 @@ class LargeFiles(unittest.TestCase):
         self.assertEqual(self.ran("a.yml", text + "...\n", "check").status, 0)
         # (a file that is laid out is read again)
         text = text.replace("expr: b", "expr: b+b")
-        self.assertIn("left as it is", self.ran("a.yml", text + "...\n", "format", "--max-exact-yaml=2000").err)
+        ran = self.ran("a.yml", text + "...\n", "format", "--max-exact-yaml=2000")
+        self.assertEqual((ran.status, ran.out), (2, ""))
+        self.assertIn("libyaml may read this otherwise, and ruamel.yaml reads at most 2,000 characters of a file", ran.err)
         self.assertEqual(self.ran("a.yml", text + "...\n", "format", "--check", "--max-exact-yaml=4000").status, 1)
 
     def test_levels(self):

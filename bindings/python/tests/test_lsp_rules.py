@@ -15,7 +15,7 @@ from promql.lsp import layout, messages
 from promql.lsp.documents import Document
 from promql.lsp.layout import RuleLayouts, lines_edits, rule_file_edits
 from promql.lsp.positions import Lines
-from promql.lsp.rules import problems_of, read_rules
+from promql.lsp.rules import problems_of, read_file, rules_of
 from promql.queries import edited
 from promql.rule_files import RuleFile
 from written import STYLES, rule_file, write
@@ -283,7 +283,7 @@ class Files(unittest.TestCase):
                 new = apply(text, self.at("rename", text, text.index("old"), OTHER, newName=name)["changes"][OTHER])
             except Refused:
                 continue
-            (rule,) = read_rules(new)
+            (rule,) = rules_of(read_file(new))
             self.assertEqual((rule.record, rule.queries[0].names.metrics[0].name), (name, name))
 
     def test_completion(self):

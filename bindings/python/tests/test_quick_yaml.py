@@ -204,7 +204,8 @@ class WithoutLibyaml(Folder):
     def test_unclear_after_formatting(self):
         """Where only the new text is unclear, both are read exactly."""
         path = self.file(file_of("up==0"))
-        with mock.patch.object(rule_files, "QuickYaml", once(QuickYaml)):
+        reader = once(QuickYaml)
+        with mock.patch.object(rule_files, "QuickYaml", reader), mock.patch.object(rule_files, "quick_yaml", reader):
             self.assertEqual(run("format", path)[:2], (0, file_of("up == 0")))
 
 
@@ -213,11 +214,11 @@ def once(reader):
     taken = []
 
     class Once(reader):
-        def __init__(self, source):
+        def __init__(self, source, most_nodes):
             if taken:
                 raise Unclear
             taken.append(source)
-            super().__init__(source)
+            super().__init__(source, most_nodes)
 
     return Once
 

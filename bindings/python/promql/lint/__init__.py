@@ -82,17 +82,13 @@ def selection_of(select: Iterable[str], ignore: Iterable[str]) -> Selection:
     return selection
 
 
-def _always(error: promql.QueryError) -> bool:
-    return True
-
-
 def look_at(
     query: str,
     selection: Selection,
     context: RuleContext,
     is_written: IsWritten = always,
     has_fixes: bool = True,
-    explains: Callable[[promql.QueryError], bool] = _always,
+    explains: Callable[[promql.QueryError], bool] = lambda error: True,
 ) -> List[Finding]:
     """The same for a query of a file, of which texts may stand there for variables. To check a fix the query is read again, so it takes
     less time without fixes. The same goes for saying what was expected in a query that is rejected."""

@@ -12,7 +12,7 @@ import promql
 from ..checked_queries import Budget
 from ..dashboards import Dashboard, JsonString
 from ..documents import Document
-from ..files import BLANKS, Fault, FileError, Source
+from ..files import BLANKS, BoundError, Fault, FileError, Source
 from ..placed_files import PlacedSpelling
 from ..queries import Edit, Query, edited
 from ..rule_files import RuleFile
@@ -22,7 +22,7 @@ from .comments import Ignored, codes_of, silenced_in
 from .findings import Finding, Fix, Severity, Span, TextEdit, Tree
 from .fixes import all_fixed, edited_query
 from .given_queries import GivenQuery
-from .known_looks import LOOKS, KnownLooks, UnseenError, take
+from .known_looks import LOOKS, KnownLooks, take
 from .rule_places import MOST_INTERVALS, RulePlace, rules_of
 from .silence import Comment, Silences
 from .subject import IsWritten, RuleContext, always
@@ -107,7 +107,7 @@ class FileLinter:
                 found += [self._placed(query, it) for it in self._look_at_query(query)]
             except RecursionError:
                 self.left.append(query.whole("not looked at: nested too deeply for the linter"))
-            except UnseenError:
+            except BoundError:
                 message = f"not looked at from here on: the queries of the file have more than {self._budget.most:,} tokens together"
                 self.left.append(query.whole(f"{message} (--max-lint-tokens)"))
                 break
@@ -117,10 +117,6 @@ class FileLinter:
         if not self.left and self._selection.has(UNUSED):
             found += self._unused_comments()
         return sorted(found, key=lambda it: (it.start, it.end, it.finding.code, it.finding.message))
-
-    def _rules_of(self, query: Query) -> Sequence[RulePlace]:
-        spelling = query.spelling
-        return self._rules.get(spelling.end, ()) if isinstance(spelling, (Scalar, PlacedSpelling)) else ()
 
     def _look_at_query(self, query: Query) -> List[Finding]:
         """What is found in a query, for each of the rules that have it."""
@@ -183,8 +179,9 @@ class FileLinter:
 
     def _places(self, query: Query) -> List[Tuple[RuleContext, int, int]]:
         """The rules that have a query, and where they are."""
-        bare = RuleContext(), query.offsets[0], query.offsets[-1]
-        return [(it.context, it.start, it.end) for it in self._rules_of(query)] or [bare]
+        end = query.spelling.end if isinstance(query.spelling, (Scalar, PlacedSpelling)) else -1
+        rules = [(it.context, it.start, it.end) for it in self._rules.get(end, ())]
+        return rules or [(RuleContext(), query.offsets[0], query.offsets[-1])]
 
     @staticmethod
     def _is_written(query: Query) -> IsWritten:
@@ -280,7 +277,7 @@ class FileLinter:
 
         try:
             text = all_fixed(query.text, look)
-        except (RecursionError, ValueError, UnseenError):
+        except (RecursionError, ValueError, BoundError):
             # (as is told by `findings`)
             return None
         return (query, text) if text != query.text else None
@@ -289,7 +286,7 @@ class FileLinter:
         """Whether a finding of a query has a fix, so that there is one to make."""
         try:
             found = self._look(query, contexts[0][0])
-        except (RecursionError, ValueError, UnseenError):
+        except (RecursionError, ValueError, BoundError):
             return False
         return any(finding.fix for finding in found)
 

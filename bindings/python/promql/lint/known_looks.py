@@ -7,6 +7,7 @@ from typing import Any, Callable, Dict, List, Mapping, Tuple
 import promql
 
 from ..checked_queries import Budget
+from ..files import BoundError
 from ..token_texts import tokens_of
 from . import look_at
 from .findings import Finding
@@ -21,15 +22,10 @@ _MOST_KEPT, _FINDING = 8_388_608, 500
 _QUERY = 4
 
 
-class UnseenError(Exception):
-    """A query is not looked at, since those of its file are too large together."""
-
-
 def take(query: str, budget: Budget) -> None:
-    """Takes the tokens of a query away from what may be looked at. (Of punctuation only an opening parenthesis begins anything.)"""
-    # (where nothing is left no query is read for that)
+    """Takes the tokens of a query away from what may be looked at, or raises. (Of punctuation only an opening parenthesis counts.)"""
     if not budget.takes(_QUERY) or not budget.takes(sum(it.kind != "punctuation" or it.text == "(" for it in tokens_of(query))):
-        raise UnseenError
+        raise BoundError
 
 
 class KnownLooks:
@@ -56,7 +52,9 @@ class KnownLooks:
             take(query, budget)
             return look_at(query, selection, context, is_written, has_fixes, explains)
         if context.recorded is not self._recorded:
-            self._forget(context.recorded)
+            if context.recorded != self._recorded:
+                self._known, self._kept = {}, 0
+            self._recorded = context.recorded
         key = (query, selection, has_fixes, *context.key)
         if key not in self._known:
             take(query, budget)
@@ -66,12 +64,6 @@ class KnownLooks:
                 self._known, self._kept = {}, len(query) + _FINDING * (1 + len(found))
             self._known[key] = found
         return self._known[key]
-
-    def _forget(self, recorded: Mapping[str, int]) -> None:
-        """Forgets what was found where other metrics are recorded than before."""
-        if recorded != self._recorded:
-            self._known, self._kept = {}, 0
-        self._recorded = recorded
 
 
 def _without_changes(finding: Finding) -> Finding:

@@ -9,11 +9,13 @@ from typing import Iterable, Iterator, List, NamedTuple, Optional, Sequence, Tup
 
 import promql
 
+from ..checked_queries import Budget
 from ..documents import GROUPS
 from ..files import Fault, FileError, Source
 from ..messages import listed
 from ..queries import Query
 from ..rule_files import RuleFile
+from ..token_texts import tokens_of
 from ..yaml_nodes import Node
 from .findings import lint_problems_of_file
 from .names import names_of
@@ -21,7 +23,8 @@ from .problems import ERROR, WARNING, Problem
 from .roles import roles_of
 
 NAME = "document"
-_MOST_NODES = 10_000
+# Of a rule, and of the queries of a file.
+_MOST_NODES, _MOST_TOKENS = 10_000, 100_000
 # Lines that are longer are not read by themselves.
 _LONGEST_LINES = 16_384
 _LINE_BEGINS = re.compile(r"\r\n|\r|\n")
@@ -107,15 +110,9 @@ def read_file(text: str) -> RuleFile:
 file_of = lru_cache(maxsize=1)(read_file)
 
 
-def read_rules(text: str) -> List[Rule]:
-    """The rules of a file. Raises FileError where there are none to read."""
-    return rules_of(read_file(text))
-
-
 def rules_of(file: RuleFile) -> List[Rule]:
-    text = file.source.text
-    # (what is in a query tells the library, which compiles its patterns)
-    queries = [query for query in file.queries if not query.skipped and file.checker.admits(query.text)]
+    text, budget = file.source.text, Budget(_MOST_TOKENS)
+    queries = [query for query in _admitted(file) if budget.takes(0) and budget.takes(len(tokens_of(query.text)))]
     queries.sort(key=lambda query: query.offsets[0])
     found: List[Rule] = []
     used = 0
@@ -131,6 +128,11 @@ def rules_of(file: RuleFile) -> List[Rule]:
         found.append(_rule(file, node, end, is_whole, own, text))
     found += map(_lone, queries[used:])
     return found
+
+
+def _admitted(file: RuleFile) -> List[Query]:
+    """The queries of which the library is asked what is in them, for which it compiles their patterns."""
+    return [query for query in file.queries if not query.skipped and file.checker.admits(query.text)]
 
 
 def rules_at(file: RuleFile, offsets: Iterable[int]) -> Iterator[Optional[Rule]]:
@@ -167,7 +169,7 @@ def _end(rule: Node) -> Tuple[int, bool]:
 def _rule(file: RuleFile, node: Node, end: int, is_whole: bool, queries: List[PlacedQuery], text: str) -> Rule:
     begin = file.source.lines.begin(node.start)
     is_alone = is_whole and text[begin : node.start].strip(" ") == "-" and not node.style
-    record, alert = file.value(node, "record"), file.value(node, "alert")
+    record, alert = file.mappings.value(node, "record"), file.mappings.value(node, "alert")
     name, place = "", (0, 0)
     if record and record.is_text() and node.start <= record.start < end:
         quotes = len(record.style) if record.style in ("'", '"') else 0
@@ -185,7 +187,7 @@ def read_lines(text: str, start: int, end: int) -> Optional[List[Rule]]:
     if before is None or not _stays_inside(text[start:end]):
         return None
     try:
-        found = read_rules(before + text[start:end])
+        found = rules_of(read_file(before + text[start:end]))
     except (FileError, RecursionError):
         return None
     if not found or not all(rule.is_alone for rule in found):
@@ -227,7 +229,11 @@ def problems_of(text: str, lints: bool = False) -> Tuple[Optional[List[Rule]], L
     found = _problems(listed({*faults}, "errors"), ERROR)
     found += _problems(listed({*warnings}, "warnings"), WARNING)
     found += lint_problems_of_file(file) if lints else []
-    return rules_of(file), sorted(found)
+    rules = rules_of(file)
+    left = _admitted(file)[sum(len(rule.queries) for rule in rules) :]
+    message = f"what is in the queries is not told from here on: those of the file have more than {_MOST_TOKENS:,} tokens"
+    found += _problems((query.whole(message) for query in left[:1]), WARNING)
+    return rules, sorted(found)
 
 
 def _problems(faults: Iterable[Fault], severity: int) -> List[Problem]:

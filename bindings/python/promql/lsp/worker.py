@@ -2,6 +2,7 @@
 
 from __future__ import annotations
 
+import gc
 import sys
 
 from .work import receive, send, work
@@ -9,6 +10,7 @@ from .work import receive, send, work
 
 def main() -> None:
     source, target = sys.stdin.buffer, sys.stdout.buffer
+    gc.set_threshold(100_000)
     # (what else writes there would be read as an answer)
     sys.stdout = sys.stderr
     while True:
