@@ -14,9 +14,8 @@
  * `result.length` are never written.
  *
  * A call about a query asks how much stack its thread has left, and does nothing where that is fewer than PROMQL_STACK bytes. It
- * asks the system for the bounds of the stack in the first call of a thread. They are not known where the library was built
- * without glibc, where /proc is not mounted (for the first thread alone), and on a stack that is not the thread's own, such as a
- * coroutine's. There the caller sees to as many bytes.
+ * asks the system for the bounds of the stack in the first call of a thread. They are not known on a stack that is not the thread's
+ * own, such as a coroutine's, and to glibc for the first thread where /proc is not mounted. There the caller sees to as many bytes.
  *
  * The caller sees to this: `buffer` and `*result` do not overlap each other or the texts that are passed; malloc, realloc and free come
  * from one allocator; no call is made from a signal handler, or in the child of a fork of a process with threads; the limit of the
@@ -177,11 +176,13 @@ uint32_t promql_print_tree(const char *tree, size_t tree_length, uint32_t mode, 
  * the two changed and not the other. */
 void promql_set_limits(size_t max_len, size_t max_pattern_size);
 
+#define PROMQL_SORTED_MATCHERS 2
+
 /* Lays a query out for people: comments stay, chains of operators are flat, and lines have at most `width` characters where they can
- * be broken, with indentations of `indent_width` spaces; at most 65535 and 16. Where `keep_spelling` is not 0, numbers, durations, strings
- * and the order of what is written stay as they are. The text was read again: it has the query's tree and its comments
+ * be broken, with indentations of `indent_width` spaces; at most 65535 and 16. Where `spelling` is 0, numbers, durations and strings
+ * are spelled in one way; where it is PROMQL_SORTED_MATCHERS, matchers are sorted, too; where it is 1, all stays as it is written. The text was read again: it has the query's tree and its comments
  * (docs/reference/formatting.md). */
-uint32_t promql_format_query(const char *query, size_t query_length, size_t width, size_t indent_width, uint32_t keep_spelling,
+uint32_t promql_format_query(const char *query, size_t query_length, size_t width, size_t indent_width, uint32_t spelling,
                              char *buffer, size_t buffer_size, struct promql_result *result);
 
 /* Sets how many bytes a text of promql_print, promql_canonical, promql_print_tree or promql_format_query
