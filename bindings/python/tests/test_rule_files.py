@@ -9,7 +9,6 @@ import stat
 import subprocess
 import sys
 import tempfile
-import threading
 import unittest
 from pathlib import Path
 from unittest import mock
@@ -575,11 +574,12 @@ class Writing(Folder):
     def test_no_regular_file(self):
         path = self.folder / "pipe.yml"
         os.mkfifo(path)
+        # (so that there is a reader for what is written before each run)
+        reader = os.open(path, os.O_RDONLY | os.O_NONBLOCK)
+        self.addCleanup(os.close, reader)
         for command in (("check",), ("format", "--check"), ("format", "--write")):
-            writer = threading.Thread(target=path.write_text, args=(self.TEXT,))
-            writer.start()
+            path.write_text(self.TEXT)
             ran = run(*command, path)
-            writer.join()
             self.assertEqual(ran.status, {"check": 0, "--check": 19, "--write": 2}[command[-1]], ran)
         self.assertEqual(ran.err, f"{path}: left as it is: it is no regular file\n")
         self.assertTrue(stat.S_ISFIFO(path.stat().st_mode))

@@ -18,7 +18,7 @@ impl OpensFiles for ThreeFiles {
     fn open(&mut self, _alloc: Global, name: &str) -> io::Result<&'static [u8]> {
         match name {
             "sum" => Ok(b"sum(a)by(b)\n"),
-            "--wrong" => Ok(b"\xef\xbb\xbf1 +\r\n"),
+            "--wrong" => Ok(b"\xef\xbb\xbf1 +\n"),
             "lines" => Ok(b"\"1\"\n2\n"),
             _ => Err(io::Error::from(ErrorKind::NotFound)),
         }
