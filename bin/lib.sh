@@ -250,7 +250,7 @@ why_extension_stale() {
 why_library_stale() {
     local made=$root/dist/libpromql.made_from name why
     why=$(why_other "$made" "$1" library_fingerprint)
-    for name in libpromql.a libpromql.so promql.h; do
+    for name in libpromql.a libpromql.so "$(library_soname)" promql.h; do
         if [ -z "$why" ] && ! { [ -f "$root/dist/$name" ] && is_listed "$made" "$root/dist/$name"; }; then
             why="$name is not the file that was released"
         fi
