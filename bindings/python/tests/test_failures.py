@@ -35,7 +35,7 @@ STAIRS = " or ".join(f"n{number}" for number in range(160))
 BAD = {
     "b-broken.yml": ("groups: [", (2, 2, 2)),
     "b-deep.yml": ("groups:\n- " + "[" * 700, (2, 2, 2)),
-    "b-deep-query.yml": (RULE + f"  - record: a\n    expr: {'sum by (b) (' * 500}a{')' * 500}\n", (0, 2, 0)),
+    "b-deep-query.yml": (RULE + f"  - record: a\n    expr: {'sum by (b) (a + ' * 250}a{')' * 250}\n", (0, 2, 0)),
     "b-encoding.yml": (b"groups: \xff", (3, 3, 3)),
     "b-half.yml": (RULE + '  - record: a\n    expr: "{a=\\"\\ud83d\\"}"\n', (3, 2, 3)),
     "b-long-query.yml": (RULE + f"  - record: a\n    expr: '{'+'.join(['a'] * 20_000)}'\n", (14, 1, 14)),

@@ -155,6 +155,8 @@ class Queries(Served):
 
     def test_long_texts(self):
         wide = "(" * 400 + "label_join(a,'b'" + ",''" * 10_500 + ")" * 401
+        self.addCleanup(promql.set_limits)
+        promql.set_limits(max_output=100_000)
         shown = self.ask(wide)
         self.assertEqual((shown["line"], shown["layout"]), (promql.canonical(wide), None))
 

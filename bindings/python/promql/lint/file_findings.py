@@ -3,8 +3,10 @@
 from __future__ import annotations
 
 import json
+import re
 from dataclasses import replace
 from difflib import SequenceMatcher
+from itertools import accumulate
 from typing import Any, Dict, Iterator, List, NamedTuple, Optional, Sequence, Set, Tuple
 
 import promql
@@ -30,6 +32,8 @@ from .table import REJECTED, UNUSED, Selection, known_codes
 
 # A part that changed is written whole where it is longer, or where such parts of a file, each times what is there instead, are too large.
 _LONGEST_COMPARED, _MOST_COMPARED = 1_000, 250_000
+# What is compared, whole: words, blanks, and each other character.
+_PIECE = re.compile(r"\w+|\s+|\W")
 # More findings than anyone reads of a file.
 MOST_FINDINGS = 5_000
 # For so many rules that differ an alias's query is looked at.
@@ -329,10 +333,12 @@ def _changed_parts(old: str, new: str, budget: Budget) -> List[TextEdit]:
     rest = min(len(old), len(new)) - first
     last = next((at for at in range(rest) if old[-1 - at] != new[-1 - at]), rest)
     before, after = old[first : len(old) - last], new[first : len(new) - last]
-    if max(len(before), len(after)) > _LONGEST_COMPARED or not budget.takes(len(before) * len(after)):
+    pieces, others = _PIECE.findall(before), _PIECE.findall(after)
+    if max(len(before), len(after)) > _LONGEST_COMPARED or not budget.takes(len(pieces) * len(others)):
         return [TextEdit(first, first + len(before), after)]
-    parts = SequenceMatcher(None, before, after, autojunk=False).get_opcodes()
-    return [TextEdit(first + it[1], first + it[2], after[it[3] : it[4]]) for it in parts if it[0] != "equal"]
+    places = [*accumulate(map(len, pieces), initial=first)]
+    parts = SequenceMatcher(None, pieces, others, autojunk=False).get_opcodes()
+    return [TextEdit(places[it[1]], places[it[2]], "".join(others[it[3] : it[4]])) for it in parts if it[0] != "equal"]
 
 
 def fault_of(found: FileFinding) -> Fault:

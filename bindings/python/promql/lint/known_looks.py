@@ -25,7 +25,7 @@ _QUERY = 4
 def take(query: str, budget: Budget) -> None:
     """Takes the tokens of a query away from what may be looked at, or raises. (Of punctuation only an opening parenthesis counts.)"""
     if not budget.takes(_QUERY) or not budget.takes(sum(it.kind != "punctuation" or it.text == "(" for it in tokens_of(query))):
-        raise BoundError
+        raise BoundError("the queries of the file have too many tokens together")
 
 
 class KnownLooks:
