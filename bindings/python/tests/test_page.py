@@ -14,6 +14,7 @@ import time
 import unittest
 import xml.etree.ElementTree as ElementTree
 from pathlib import Path
+from unittest import mock
 
 import promql
 from promql import drawing, page
@@ -155,9 +156,8 @@ class Queries(Served):
 
     def test_long_texts(self):
         wide = "(" * 400 + "label_join(a,'b'" + ",''" * 10_500 + ")" * 401
-        self.addCleanup(promql.set_limits)
-        promql.set_limits(max_output=100_000)
-        shown = self.ask(wide)
+        with mock.patch.object(page, "MAX_TEXT", 100_000):
+            shown = self.ask(wide)
         self.assertEqual((shown["line"], shown["layout"]), (promql.canonical(wide), None))
 
     def test_number_too_wide(self):
