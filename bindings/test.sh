@@ -308,6 +308,12 @@ unit_tests() {
     print_counts "$((${ran:-0} - lost - ${skipped:-0}))" "$lost" && [ "${ran:-0}" -gt 0 ]
 }
 
+# add_unit_tests NAME FOLDER: adds all tests of the package in this folder, in runs that each end in time.
+add_unit_tests() {
+    local names
+    for names in a-f g-l m-q r-z; do add "$1, test_[$names]*" unit_tests "$2" "test_[$names]*.py"; done
+}
+
 # The tests of rule files, which those of Python skip where python3 has no reader of YAML.
 test_rule_files() {
     local python
@@ -336,8 +342,8 @@ test_rule_files() {
 
 test_python() {
     has python3 'the binding for Python' || return
-    add 'Python' unit_tests "$here/python"
-    PROMQL_EXTENSION='' add 'Python by ctypes' unit_tests "$here/python"
+    add_unit_tests 'Python' "$here/python"
+    PROMQL_EXTENSION='' add_unit_tests 'Python by ctypes' "$here/python"
     test_extension
     test_rule_files
     test_schema

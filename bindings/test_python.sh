@@ -101,7 +101,7 @@ test_wheel() {
     export python
     add "the wheel, by $python" unit_tests "$here/python" wheels.py
     try "installing the wheel, by $python" install_wheel
-    if [ -d "$work/site" ]; then PROMQL_BROKEN=1000 add "Python, as pip installs it, by $python" unit_tests "$work/site"; fi
+    if [ -d "$work/site" ]; then PROMQL_BROKEN=1000 add_unit_tests "Python, as pip installs it, by $python" "$work/site"; fi
 }
 
 export -f install_wheel extension_agrees build_sanitized_extension
