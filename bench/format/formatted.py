@@ -167,6 +167,7 @@ def check_made(count: int, rng: random.Random) -> int:
     from compare import Maker
 
     promql.set_limits(max_len=10_000_000, max_patterns=100_000_000)
+    promql.set_target("rules")  # (what a server reads otherwise is laid out, too)
     checks, maker, listed = Checks(most=20), Maker(rng), queries()
     while checks.passed + checks.failed < count:
         query = maker.query() if rng.random() < 0.7 else rng.choice(listed)
