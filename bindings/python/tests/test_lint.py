@@ -75,10 +75,10 @@ FOUND = (
     ("P104", r'up{a=~"^b.\\\\$"}', r'a=~"^b.\\\\$"', r'up{a=~"b.\\\\"}'),
     ("P105", 'up{a=~".*b.*"}', 'a=~".*b.*"', None),
     ("P105", 'up{a!~".+b(c|d).+"}', 'a!~".+b(c|d).+"', None),
-    ("P106", 'up{a=~".*"}', 'a=~".*"', "up"),
-    ("P106", 'up{b="c", a=~"^.*$"}', 'a=~"^.*$"', 'up{b="c"}'),
-    ("P106", 'up{a=~".*", b="c"}', 'a=~".*"', 'up{b="c"}'),
-    ("P106", 'up{a=~"b|.*",}', 'a=~"b|.*"', "up{}"),
+    ("P106", 'up{a=~".*"}', 'a=~".*"', None),
+    ("P106", 'up{b="c", a=~"^.*$"}', 'a=~"^.*$"', None),
+    ("P106", 'up{a=~".*", b="c"}', 'a=~".*"', None),
+    ("P106", 'up{a=~"b|.*",}', 'a=~"b|.*"', None),
     ("P106", 'up{a=~".*" or b="c"}', 'a=~".*"', None),
     ("P107", 'up{a!~".*"}', 'a!~".*"', None),
     ("P108", 'up{a="b",a="c"}', 'a="c"', None),
@@ -385,10 +385,23 @@ class Rules(unittest.TestCase):
                 self.assertEqual("Fixed" in text, any(it.fix for it in found_by(code, bad)))
 
     def test_fixes_together(self):
-        self.assertEqual(fix("((up{ a=~'^b$',c=~'.*' })) # ((d))"), "up{ a='b' } # ((d))")
+        self.assertEqual(fix("((up{ a=~'^b$',c='d',c='d' })) # ((d))"), "up{ a='b',c='d' } # ((d))")
         self.assertEqual(fix("up{}\n  ==  # why\n  (1)"), "up\n  ==  # why\n  1")
+        self.assertEqual(fix("nl{a=~'^.*$'}"), "nl{a=~'^.*$'}")
         self.assertEqual(fix("up{a=~'b'}", ignore=("P103",)), "up{a=~'b'}")
         self.assertEqual(fix("up +"), "up +")
+
+    def test_lines_of_parentheses(self):
+        """No line of blanks is left, and each comment ends where it did."""
+        for query, fixed in (
+            ("(  # why\n  up\n)", "# why\n  up"),
+            ("a / (\n  b # why\n  )\n* 2", "a / b # why\n* 2"),
+            ("a / (\n  b # why\n  ) * 2", "a / b # why\n   * 2"),
+            ("# why\n(\n  up\n)", "# why\nup"),
+            ("sum(\n  (\n    up # why\r  )\n)", "sum(\n  up # why\n)"),
+            ('(\n  up{a="#"}\n) # why', 'up{a="#"}\n # why'),
+        ):
+            self.assertEqual(fix(query), fixed)
 
     def test_fix_that_would_lose_a_comment(self):
         query = "up{ # why\n}"

@@ -173,7 +173,7 @@ class Boards(Folder):
                 'sum(rate(${m}_total{a=~"$x",b=~"c.+"}[$__interval])) > ($y)',
             ),
             ("[[f]]({}) + $z{}", None),
-            ("$x{a=~'b'} + up{c=~'$y', d=~'.*'}", "$x{a='b'} + up{c=~'$y'}"),
+            ("$x{a=~'b'} + up{c=~'$y', d='e', d='e'}", "$x{a='b'} + up{c=~'$y', d='e'}"),
             ('up{a=~"b\\\\.c"} / on ($l) ($x)', 'up{a="b.c"} / on ($l) ($x)'),
             ("($x + 1) + (($y)) + ($f(up)) + (up{a='$x'})", "($x + 1) + ($y) + ($f(up)) + up{a='$x'}"),
         ):
