@@ -23,11 +23,8 @@ _MOST_MEASURED = 300
 def failing_argument(subject: Subject) -> Iterator[Remark]:
     """A pattern that is none, or a text that is no name of a label, where a function or an aggregation needs one."""
     for node, is_pattern in _texts(subject):
-        text = node["val"] if node["type"] == "stringLiteral" else None
-        if text is None or not subject.is_written(text):
-            continue
-        why = _why_no_pattern(text) if is_pattern else _why_no_label(text)
-        if why:
+        why = _why_no_pattern(node["val"]) if is_pattern else _why_no_label(node["val"])
+        if why and subject.is_written(node["val"]):
             yield Remark(subject.span(node), why)
 
 

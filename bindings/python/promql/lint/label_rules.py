@@ -12,9 +12,6 @@ from .subject import Subject
 from .table import rule
 from .trees import NAME, fills, inner, matching_of
 
-# The labels of a side of an operator, and those of them that are to be looked at.
-_Side = Tuple[Labels, FrozenSet[str]]
-
 
 @rule("P401", "lost-label", Severity.WARNING)
 def lost_label(subject: Subject) -> Iterator[Remark]:
@@ -68,31 +65,30 @@ def grouped_label(subject: Subject) -> Iterator[Remark]:
 @rule("P404", "never-matched", Severity.ERROR)
 def never_matched(subject: Subject) -> Iterator[Remark]:
     """Sides of an operator of which one surely has a label that the other cannot have, or of which both have it with other values."""
-    for node, left, right in _matching(subject):
+    for node, left, right in subject.matched:
         why = _why_never(subject, node, left, right)
         if why:
             yield Remark(subject.head(node), f"no series match: {why}")
 
 
-def _matching(subject: Subject) -> Iterator[Tuple[Tree, Labels, Labels]]:
-    """The operators that give something only where series of both sides match."""
-    return (it for it in subject.matched if it[0]["op"] != "or" and not fills(it[0]))
-
-
 def _why_never(subject: Subject, node: Tree, left: Labels, right: Labels) -> str:
     """Why no series of both sides match, or nothing."""
     lacking = _lacking(subject, node, (left, left.sure), (right, right.sure))
-    if lacking:
+    if lacking or node["op"] == "or" or fills(node):
         return lacking
-    values = dict(left.values)
-    for label, value in sorted(right.values):
-        if values.get(label, value) != value and _compared(node, frozenset((label,))) and all(map(subject.is_written, (value, values[label]))):
-            return f"the label `{label}` has the value {requoted('', values[label])} on the left side, and {requoted('', value)} on the right"
+    here, there = dict(sorted(left.values)), dict(sorted(right.values))
+    differing = frozenset(label for label in here.keys() & there.keys() if here[label] != there[label])
+    for label in sorted(_compared(node, differing)):
+        if subject.is_written(here[label]) and subject.is_written(there[label]):
+            values = f"{requoted('', here[label])} on the left side, and {requoted('', there[label])} on the right"
+            return f"the label `{label}` has the value {values}"
     return ""
 
 
-def _lacking(subject: Subject, node: Tree, left: _Side, right: _Side) -> str:
+def _lacking(subject: Subject, node: Tree, left: Tuple[Labels, FrozenSet[str]], right: Tuple[Labels, FrozenSet[str]]) -> str:
     """That one side has a label, of some that are to be looked at, which the other side cannot have; or nothing."""
+    if node["op"] == "or" or fills(node):
+        return ""
     for side, (_, has), (other, _) in (("left", left, right), ("right", right, left)):
         lacking = sorted(_compared(node, other.lacked(has)))
         if lacking and all(map(subject.is_written, lacking)):
@@ -137,7 +133,7 @@ def matcher_without_label(subject: Subject) -> Iterator[Remark]:
 @rule("P407", "one-sided-label", Severity.ERROR)
 def one_sided_label(subject: Subject) -> Iterator[Remark]:
     """Sides of an operator of which one is aggregated by a label that the other cannot have."""
-    for node, left, right in _matching(subject):
+    for node, left, right in subject.matched:
         # (what `on` has and a side lacks is told by P402)
         if not matching_of(node)["on"] and not _why_never(subject, node, left, right):
             lacking = _lacking(subject, node, (left, left.named), (right, right.named))

@@ -152,7 +152,7 @@ def matches_none(subject: Subject) -> Iterator[Remark]:
     """A matcher that no value matches."""
     for node, matcher in _with_pattern(subject):
         if matcher.operator == "!~" and patterns.matches_everything(matcher.value):
-            yield Remark(_span(subject, node, matcher), f"`{_shown(matcher)}` matches no series")
+            yield Remark(_span(subject, node, matcher), f"`{_shown(matcher)}` matches no series without a line end in the label")
 
 
 def _matches(subject: Subject, matcher: SeenMatcher, value: str) -> Optional[bool]:

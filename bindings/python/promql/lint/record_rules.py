@@ -12,14 +12,11 @@ from .table import rule
 @rule("P701", "recorded-twice", Severity.ERROR)
 def recorded_twice(subject: Subject) -> Iterator[Remark]:
     """A rule that records a series that another rule of the file records, too."""
-    first = subject.context.same_query
-    if first is not None and (first.split() == subject.text.split() or _is_one_series(subject, first)):
-        yield Remark(subject.whole, f"another rule of this file records `{subject.context.record}` with the same labels")
-
-
-def _is_one_series(subject: Subject, query: str) -> bool:
-    """Whether what another query gives, and what this one gives, has no labels."""
-    return subject.labels.of(subject.tree).only == frozenset() == subject.context.records.labels_in(query).only
+    first, labels = subject.context.same_query, subject.labels.of(subject.tree)
+    if first is not None:
+        is_one_series = labels.only == frozenset() == subject.context.records.labels_in(first).only
+        if is_one_series or first.split() == subject.text.split():
+            yield Remark(subject.whole, f"another rule of this file records `{subject.context.record}` with the same labels")
 
 
 @rule("P702", "recorded-in-circle", Severity.WARNING)

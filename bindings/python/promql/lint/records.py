@@ -127,13 +127,15 @@ class RecordsReader:
         self._mappings = mappings
         self._labels: Dict[int, FrozenSet[Tuple[str, str]]] = {}
         found = [(mappings.value(group, "rules"), mappings.value(group, "labels")) for group in groups]
-        # (groups may share a list)
         with_labels = {id(items) for items, labels in found if labels}
         lists = {id(items): items for items, _ in found}
         self._rules: Dict[int, RecordedRule] = {}
         for items in lists.values():
             for rule in mappings_in(items):
-                self._read(rule, id(items) in with_labels)
+                name, query, labels = (mappings.value(rule, key) for key in ("record", "expr", "labels"))
+                if name and query and name.is_scalar() and query.is_scalar():
+                    given = None if id(items) in with_labels else self._labels_in(labels)
+                    self._rules[id(rule)] = RecordedRule(str(name.value), str(query.value), given)
         self.records = Records(self._rules.values(), take)
         # The queries of rules before others, by these, that record the same metric with the same labels.
         self.same: Dict[int, str] = {}
@@ -143,22 +145,9 @@ class RecordsReader:
                 self.same[node] = first[it.name, it.labels]
             first.setdefault((it.name, it.labels), it.query)
 
-    def _read(self, rule: Node, has_more: bool) -> None:
-        name, query, labels = (self._mappings.value(rule, key) for key in ("record", "expr", "labels"))
-        if name and query and name.is_scalar() and query.is_scalar():
-            given = None if has_more else self._labels_in(labels)
-            self._rules[id(rule)] = RecordedRule(str(name.value), str(query.value), given)
-
     def _labels_in(self, owner: Optional[Node]) -> FrozenSet[Tuple[str, str]]:
-        if not owner or owner.kind != "mapping":
-            return frozenset()
-        if id(owner) not in self._labels:
+        if owner and owner.kind == "mapping" and id(owner) not in self._labels:
             # (an own label comes before one that is merged)
             entries = reversed([it for it in self._mappings.entries(owner) if it[0].is_scalar() and it[1].is_scalar()])
             self._labels[id(owner)] = frozenset({str(key.value): str(value.value) for key, value in entries}.items())
-        return self._labels[id(owner)]
-
-    def circle_of(self, rule: Node) -> FrozenSet[str]:
-        """The metrics of rules that read one another in a circle, where this rule is one of them."""
-        circle = self.records.circle
-        return circle if id(rule) in self._rules and self._rules[id(rule)].name in circle else frozenset()
+        return self._labels.get(id(owner), frozenset())

@@ -43,14 +43,11 @@ class RulePlace(NamedTuple):
 class _Named(NamedTuple):
     """What templates name: the labels that they show, and those of which they ask."""
 
-    shown: FrozenSet[str]
-    asked: FrozenSet[str]
+    shown: FrozenSet[str] = frozenset()
+    asked: FrozenSet[str] = frozenset()
     # The texts that have the value in them, by their names, and the queries.
-    values: FrozenSet[str]
-    queries: Tuple[str, ...]
-
-
-_NOTHING = _Named(frozenset(), frozenset(), frozenset(), ())
+    values: FrozenSet[str] = frozenset()
+    queries: Tuple[str, ...] = ()
 
 
 class RulePlaces(NamedTuple):
@@ -113,8 +110,9 @@ class _Reader:
             alert, record = self._text(rule, "alert"), self._text(rule, "record")
             labels = self._template_labels(rule) if alert else frozenset()
             values, queries = self._values_and_queries(rule) if alert else (frozenset(), ())
-            circle, same = self._records.circle_of(rule), self._records.same.get(id(rule))
-            context = RuleContext(alert, record, interval, labels, recorded, self._records.records, circle, same, values, queries)
+            records, same = self._records.records, self._records.same.get(id(rule))
+            circle = records.circle if record in records.circle else frozenset()
+            context = RuleContext(alert, record, interval, labels, recorded, records, circle, same, values, queries)
             yield RulePlace(rule.start, _end(rule), query.end, context)
 
     def _text(self, mapping: Node, key: str) -> str:
@@ -134,7 +132,7 @@ class _Reader:
     def _values_and_queries(self, rule: Node) -> Tuple[FrozenSet[str], Tuple[str, ...]]:
         """The labels with the value in them, and the queries of templates, of which the first ones are taken as above."""
         owners = [self._mappings.value(rule, key) for key in ("labels", "annotations")]
-        labels, texts = (self._named_in(it) if it and it.kind == "mapping" else _NOTHING for it in owners)
+        labels, texts = (self._named_in(it) if it and it.kind == "mapping" else _Named() for it in owners)
         return labels.values, (*labels.queries, *texts.queries)[:_MOST_LABELS]
 
     def _named_in(self, owner: Node) -> _Named:

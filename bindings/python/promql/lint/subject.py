@@ -8,10 +8,9 @@ from typing import Callable, Dict, FrozenSet, Hashable, Iterator, List, Mapping,
 
 from ..labels import children_of, nodes_of
 from .findings import Span, Tree
-from .label_flow import LabelFlow, Labels
+from .label_flow import LabelFlow, Labels, name_of
 from .places import MatcherPlace, NodePlace, Places
 from .records import NO_RECORDS, Records
-from .trees import NAME
 from .value_flow import ValueFlow
 
 # Of a text in a message, and what is looked at for that.
@@ -220,10 +219,7 @@ class Subject:
 
     def metric(self, node: Tree) -> Optional[str]:
         """The name of the metric that a selector reads, where it is one that somebody wrote."""
-        name: Optional[str] = node["name"]
-        if name is None:
-            names = [it["value"] for it in node["matchers"] if it["name"] == NAME and it["type"] == "="]
-            name = names[0] if names else None
+        name = name_of(node)
         return name if name and self.is_written(name) else None
 
 

@@ -43,18 +43,14 @@ def _whole(low: float, high: float = inf) -> Range:
 
 _ANY = Range(has_nan=True)
 _ONE, _NOT_NEGATIVE = _whole(1, 1), Range((0, 0), has_nan=True)
+_TIMES = {"minute": (0, 59), "hour": (0, 23), "day_of_week": (0, 6), "day_of_month": (1, 31), "days_in_month": (28, 31)}
+_TIMES.update({"day_of_year": (1, 366), "month": (1, 12)})
 _CALLS = {
     **dict.fromkeys(("absent", "absent_over_time", "present_over_time"), _ONE),
     **dict.fromkeys(("changes", "resets"), _whole(0)),
     **dict.fromkeys(("abs", "sqrt", "stddev_over_time", "stdvar_over_time"), _NOT_NEGATIVE),
     "count_over_time": _whole(1),
-    "day_of_month": _whole(1, 31),
-    "day_of_week": _whole(0, 6),
-    "day_of_year": _whole(1, 366),
-    "days_in_month": _whole(28, 31),
-    "hour": _whole(0, 23),
-    "minute": _whole(0, 59),
-    "month": _whole(1, 12),
+    **{name: _whole(*ends) for name, ends in _TIMES.items()},
 }
 _AGGREGATIONS = {"count": _whole(1), "group": _ONE, "stddev": _NOT_NEGATIVE, "stdvar": _NOT_NEGATIVE}
 # What gives values that are among those below it.
