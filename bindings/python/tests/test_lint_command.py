@@ -296,8 +296,9 @@ class Files(Folder):
     def test_recorded_labels(self):
         """The labels of a recorded metric are those that its rule keeps, and gives."""
         alert = "alert: C, expr: 'max by (zone, team) (a:b:sum) > 1'"
-        for labels, codes in (("", [("P401", 5), ("P401", 5)]), (", labels: {team: x}", [("P401", 5)]), (", labels: {team: x, zone: y}", [])):
-            self.assertEqual(self.codes(self.rules(f"record: 'a:b:sum', expr: sum(b){labels}", alert)), codes, labels)
+        for labels, count in (("", 2), (", labels: {team: x}", 1), (", labels: {team: x, zone: y}", 0)):
+            path = self.rules(f"record: 'a:b:sum', expr: sum(b){labels}", alert)
+            self.assertEqual(self.codes(path), [("P401", 5)] * count, labels)
         path = self.rules("record: 'a:b:sum', expr: sum(b)", alert, labels="  labels: {team: x}\n")
         self.assertEqual(self.codes(path), [])
         path = self.rules("record: 'a:b:sum', expr: sum(b)", "record: 'a:b:sum', expr: c", alert)
@@ -319,10 +320,19 @@ class Files(Folder):
         self.assertLess(time.monotonic() - begin, 10)
 
     def test_many_records_of_one_name(self):
-        rules = [f"record: 'a:b:c', expr: sum by (d{number}) (e)" for number in range(1_000)]
+        rules = [f"record: 'a:b:c', expr: sum by (d{number % 100}) (e) + {number}" for number in range(1_000)]
         begin = time.monotonic()
         self.assertEqual(self.codes(self.rules(*rules, "alert: F, expr: 'a:b:c{g=\"h\"} > 1'")), [("P406", 1004)])
         self.assertLess(time.monotonic() - begin, 10)
+
+    def test_record_of_many_labels(self):
+        """Many labels of a metric are not followed into all that reads it."""
+        by, reads = ", ".join(f"b{number}" for number in range(4_000)), "+".join(["a"] * 400)
+        alerts = [f"alert: d, expr: 'sum by (e) ({reads}) > {number}'" for number in range(20)]
+        path = self.rules(f"record: a, expr: 'sum by ({by}) (c)'", *alerts)
+        begin = time.process_time()
+        self.assertEqual(self.codes(path), [])
+        self.assertLess(time.process_time() - begin, 10)
 
     def test_circles(self):
         circle = [f"record: a{number}, expr: sum(a{(number + 1) % 500})" for number in range(500)]

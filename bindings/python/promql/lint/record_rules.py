@@ -26,7 +26,6 @@ def recorded_in_circle(subject: Subject) -> Iterator[Remark]:
     for node in subject.of_type("vectorSelector") if names else ():
         name = subject.metric(node)
         if name in names and not node["offset"]:
-            # (once for all its selectors)
             names.remove(name)
             message = f"`{name}` is recorded from `{subject.context.record}` itself, so this reads what an earlier evaluation left"
             yield Remark(subject.span(node), message)

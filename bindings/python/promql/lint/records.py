@@ -15,6 +15,8 @@ from .label_flow import LabelFlow, Labels
 
 # What may be the name of a metric, in whatever it is.
 _WORD = re.compile(r"[A-Za-z_:][\w:]*", re.ASCII)
+# Labels of a metric are followed where there are no more.
+_MOST_LABELS = 200
 
 
 class RecordedRule(NamedTuple):
@@ -76,7 +78,7 @@ class Records:
             made = self.labels_in(rule.query).dropped(frozenset(name for name, _ in rule.labels)).added(*given)
             made = made._replace(sure=made.sure | given, values=made.values | {it for it in rule.labels if it[1]})
             found = found.either(made) if found else made
-        return found
+        return found if found and sum(len(it or ()) for it in found) <= _MOST_LABELS else None
 
     def labels_in(self, query: str) -> Labels:
         """The labels of the series of a query; any, where it is rejected."""

@@ -44,8 +44,7 @@ class RuleContext:
     @property
     def key(self) -> Tuple[Hashable, ...]:
         """What the rules ask for, but for what is recorded."""
-        own = bool(self.alert), self.interval, self.circle, self.same_query
-        return (*own, self.template_labels, self.value_labels, self.template_queries)
+        return bool(self.alert), self.interval, self.circle, self.same_query, self.template_labels, self.value_labels, self.template_queries
 
 
 IsWritten = Callable[[str], bool]
