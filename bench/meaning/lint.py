@@ -20,7 +20,9 @@ from promql.lint import fix, lint
 from promql.lint.subject import Subject
 
 # What says that an expression has no value.
-EMPTY = ("P107", "P108", "P303", "P404")
+EMPTY = ("P107", "P108", "P303", "P308", "P404")
+# Queries that select series with a line end in the value of a label.
+WITH_LINE_ENDS = tuple(f'{name}{{job="a\\nb",instance="i\\n"}}' for name in compare.NAMES)
 PATTERNS = (".*", "api", "^web$", "^i.*", "i1|i2", "i.$", "", ".+", "200", "[0-9]+", "(api|db)", "x.*|api$")
 
 
@@ -47,7 +49,17 @@ class Maker(compare.Maker):
             return f"({left}) {self.rng.choice(('/', 'and', '>', 'or', 'unless'))} {self.rng.choice(('sum', 'max by (job)'))}({right})"
         if choice < 0.25:
             return f"(count({super().instant(depth - 1)}) {self.rng.choice(('==', '<', '<='))} {self.rng.choice('012')})"
+        if choice < 0.35:
+            return self.compared(super().instant(depth - 1))
         return str(super().instant(depth))
+
+
+    def compared(self, vector: str) -> str:
+        """Two comparisons of a vector with numbers that are near each other."""
+        function = self.rng.choice(("", "hour", "day_of_week", "sgn", "abs", "max", "count"))
+        first, second = (f"{self.rng.choice(('<', '<=', '==', '!=', '>', '>='))} {self.rng.choice(('-1', '0', '1', '2', '24'))}" for _ in "12")
+        values = f"{function}({vector})"
+        return f"(({values} {first}) {self.rng.choice(('', f'and {values}'))} {second})"
 
 
 def parts_of(query: str) -> Iterator[str]:
@@ -59,6 +71,10 @@ def parts_of(query: str) -> Iterator[str]:
             yield query[span.start : span.end]
 
 
+def is_filter(node: Dict[str, Any]) -> bool:
+    return bool(node["type"] == "binaryExpr" and not node["bool"])
+
+
 def is_said_empty(query: str) -> str:
     """The code of a finding that says that the query has no value, or nothing."""
     subject = Subject(query, promql.parse(query))
@@ -68,6 +84,7 @@ def is_said_empty(query: str) -> str:
             "P107": root["type"] == "vectorSelector" and "or_matchers" not in root,
             "P108": root["type"] == "vectorSelector" and "or_matchers" not in root,
             "P303": finding.span == subject.span(root),
+            "P308": is_filter(root) and finding.span in (subject.span(root), subject.head(root)) and "no number" not in finding.message,
             "P404": root["type"] == "binaryExpr" and root["op"] != "unless" and finding.span == subject.head(root),
         }
         if is_of_root[finding.code]:
@@ -102,7 +119,9 @@ class Comparison:
                 self.counts[f"said to be empty by {code}"] += 1
                 given = self._server.evaluate(part)
                 # (an error of the execution is that of series that match too many)
-                if not compare.is_empty(given) and all(it[0] != "error" for it in given):
+                # (a point matches no line end there)
+                has_line_ends = code == "P107" and all("\n" in "".join(it.values()) for it in series_of(given))
+                if not compare.is_empty(given) and all(it[0] != "error" for it in given) and not has_line_ends:
                     self.differences.append(f"not empty, {code}: {part}")
 
     def _labels(self, query: str, found: Tuple[Any, Any]) -> None:
@@ -111,7 +130,8 @@ class Comparison:
         for series in series_of(found):
             self.counts["labels of series"] += 1
             names = set(series) - {"__name__"}
-            if not all(map(labels.may_have, names)) or not labels.sure <= names:
+            has_values = all(series.get(label) == value for label, value in labels.values)
+            if not all(map(labels.may_have, names)) or not labels.sure <= names or not has_values:
                 self.differences.append(f"labels {sorted(names)}, said {labels}: {query}")
                 break
 
@@ -129,7 +149,7 @@ def main(count: str = "2000", seed: str = "1") -> int:
     maker = Maker(rng)
     queries = list(compare.accepted(maker.query() for _ in range(int(count))))
     with tempfile.TemporaryDirectory() as folder, contextlib.ExitStack() as stack:
-        server = compare.Prometheus(pathlib.Path(folder, "store"), list(compare.series_of(rng, ["up"])))
+        server = compare.Prometheus(pathlib.Path(folder, "store"), list(compare.series_of(rng, ["up", *WITH_LINE_ENDS])))
         stack.callback(server.end)
         comparison = Comparison(server)
         for query in queries:

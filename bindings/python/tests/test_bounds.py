@@ -206,8 +206,8 @@ class Aliases(unittest.TestCase):
             self.assertEqual(self.lint(RULE + f"  - {{alert: A, expr: up > 1, annotations: {{a: '{text}'}}}}\n").status, 0)
 
     def test_silences(self):
-        text = "# promql: ignore-file P101\n" * 2_000 + RULE + "  # promql: ignore P602\n  - {expr: (up), record: a}\n" * 3_000
-        ran = self.lint(text)
+        rules = "".join(f"  # promql: ignore P602\n  - {{expr: (up), record: a{number}}}\n" for number in range(3_000))
+        ran = self.lint("# promql: ignore-file P101\n" * 2_000 + RULE + rules)
         self.assertEqual((ran.status, ran.out.count(" P601: ")), (1, 3_000))
 
 
@@ -217,7 +217,7 @@ class Findings(unittest.TestCase):
         query = "+".join(["(a)"] * 400)
         with TemporaryDirectory() as folder:
             path = Path(folder, "a.yml")
-            path.write_text(RULE + "".join(f"  - {{record: a, expr: '{query}'}}\n" for _ in range(40)))
+            path.write_text(RULE + "".join(f"  - {{record: b, expr: '{query}'}}\n" for _ in range(40)))
             ran = run("lint", path)
             self.assertEqual((ran.status, ran.out.count(" P601: ")), (2, 5_200))
             self.assertIn(f":17:24: not looked at from here on: there are more than {MOST_FINDINGS:,} findings before", ran.err)
@@ -314,7 +314,7 @@ class LargeFiles(unittest.TestCase):
 
     def test_changed(self):
         """Long parts that change are not compared where there are many of them."""
-        text = RULE + "".join(f"  - {{record: a, expr: {'+'.join(['(a)'] * 230)}+{number}}}\n" for number in range(8))
+        text = RULE + "".join(f"  - {{record: b, expr: {'+'.join(['(a)'] * 230)}+{number}}}\n" for number in range(8))
         with mock.patch.object(known_looks.LOOKS, "_known", {}):
             ran = self.ran("a.yml", text, "lint", "--fix")
         self.assertEqual((ran.status, ran.out), (0, ran.out.partition(": ")[0] + ": 8 rules, 8 queries fixed, no findings\n"))

@@ -8,6 +8,7 @@ from pathlib import Path
 import promql
 from promql.lint import RULES, RuleContext, Selection, Severity, fix, known_codes, lint, look_at_tree
 from promql.lint.fixes import edited_query
+from promql.lint.records import RecordedRule, Records
 from promql.lint.subject import Subject
 from promql.token_texts import comments_of
 
@@ -17,13 +18,33 @@ ENTRY = re.compile(r"^### (P\d{3}) ([\w-]+)\n(.*?)(?=^##)", re.M | re.S)
 EXAMPLE = re.compile(r"^- (Bad|Good): `([^`]+)`", re.M)
 # What some rules have to know of the rule that has the query.
 ALERT = RuleContext(alert="A", template_labels=frozenset(("zone",)))
+RECORDS = Records(
+    (
+        RecordedRule("job:errors:sum", "sum by (job) (errors)"),
+        RecordedRule("zone:errors:max", "max by (zone) (job:errors:sum)"),
+        RecordedRule("given:errors:sum", "sum(errors)", frozenset((("team", "shop"), ("job", "")))),
+        RecordedRule("two:errors:sum", "sum by (job) (errors)"),
+        RecordedRule("two:errors:sum", "sum by (zone) (errors)"),
+        RecordedRule("self:errors:sum", "sum by (job) (self:errors:sum offset 1m)"),
+        RecordedRule("group:errors:sum", "sum(errors)", None),
+        RecordedRule("broken:errors:sum", "sum("),
+    )
+)
 CONTEXTS = {
     "P206": ALERT,
     "P207": RuleContext(alert="A", interval=300_000),
     "P501": RuleContext(alert="A"),
     "P502": RuleContext(alert="A"),
     "P503": ALERT,
+    "P406": RuleContext(alert="A", records=RECORDS),
+    "P504": RuleContext(alert="A", value_labels=frozenset(("load",))),
+    "P505": RuleContext(alert="A", template_queries=("sum(up", "up")),
+    "P701": RuleContext(record="A", same_query="max(up)"),
+    "P702": RuleContext(record="A", circle=frozenset(("job:load:max", "A"))),
+    "P703": RuleContext(alert="A", records=RECORDS),
 }
+# For which the page has what else to say of these in the rule, and not in the query.
+BY_CONTEXT = ("P504", "P505")
 # Two texts of which each character of the one would be held against each of the other.
 LARGE = 'up{a="' + "b" * 10_000 + '",a=~"' + "b?" * 100 + '"}'
 # For each code queries with what is marked in them, and the query with the fix where there is one.
@@ -54,10 +75,10 @@ FOUND = (
     ("P104", r'up{a=~"^b.\\\\$"}', r'a=~"^b.\\\\$"', r'up{a=~"b.\\\\"}'),
     ("P105", 'up{a=~".*b.*"}', 'a=~".*b.*"', None),
     ("P105", 'up{a!~".+b(c|d).+"}', 'a!~".+b(c|d).+"', None),
-    ("P106", 'up{a=~".*"}', 'a=~".*"', "up"),
-    ("P106", 'up{b="c", a=~"^.*$"}', 'a=~"^.*$"', 'up{b="c"}'),
-    ("P106", 'up{a=~".*", b="c"}', 'a=~".*"', 'up{b="c"}'),
-    ("P106", 'up{a=~"b|.*",}', 'a=~"b|.*"', "up{}"),
+    ("P106", 'up{a=~".*"}', 'a=~".*"', None),
+    ("P106", 'up{b="c", a=~"^.*$"}', 'a=~"^.*$"', None),
+    ("P106", 'up{a=~".*", b="c"}', 'a=~".*"', None),
+    ("P106", 'up{a=~"b|.*",}', 'a=~"b|.*"', None),
     ("P106", 'up{a=~".*" or b="c"}', 'a=~".*"', None),
     ("P107", 'up{a!~".*"}', 'a!~".*"', None),
     ("P108", 'up{a="b",a="c"}', 'a="c"', None),
@@ -78,6 +99,8 @@ FOUND = (
     ("P206", "sum(IRATE(x[5m])) > 1", None, None),
     ("P206", "sum(irate(x[5m])) > 1", "irate", None),
     ("P207", "rate(x[4m]) > 1", "[4m]", None),
+    ("P208", "histogram_quantile(0.9, (x_bucket))", "x_bucket", None),
+    ("P208", "histogram_quantile(0.9, sum by (le) (sum without (a) (x_bucket)))", "x_bucket", None),
     ("P301", "1 > bool 2", "1 > bool 2", None),
     ("P301", "vector(-1) == (2 * 3)", "vector(-1) == (2 * 3)", None),
     ("P302", "up == 0.5", "up == 0.5", None),
@@ -92,6 +115,27 @@ FOUND = (
     ("P306", "histogram_quantile(0.9, sum(rate(x_bucket[5m])))", "sum(rate(x_bucket[5m]))", None),
     ("P306", "histogram_quantile(0.9, sum without (le) (x_bucket))", "sum without (le) (x_bucket)", None),
     ("P307", "sort_by_label(x, 'a')", "sort_by_label", None),
+    ("P308", "x > 5 < 3", "x > 5 < 3", None),
+    ("P308", "5 < x <= 5", "5 < x <= 5", None),
+    ("P308", "hour() == bool 24", "hour() == bool 24", None),
+    ("P308", "max by (a) (day_of_week(x)) == 7", "max by (a) (day_of_week(x)) == 7", None),
+    ("P308", "max_over_time((x > 2)[5m:]) < 1", "max_over_time((x > 2)[5m:]) < 1", None),
+    ("P308", "absent(x) > 1", "absent(x) > 1", None),
+    ("P308", "x > 5 and x < 3", "and", None),
+    ("P308", "(rate(x[5m]) == 1) and 2 < (rate(x[5m]))", "and", None),
+    ("P308", "x != x", "!=", None),
+    ("P308", "sum(x) > (sum(x))", ">", None),
+    ("P308", "x unless x", "unless", None),
+    ("P308", "(x > bool 1) == 2", "(x > bool 1) == 2", None),
+    ("P309", "count(x) >= 0", "count(x) >= 0", None),
+    ("P309", "hour() < 24", "hour() < 24", None),
+    ("P309", "x > 5 > 3", "x > 5 > 3", None),
+    ("P310", "label_replace(x, 'a', '', 'b', '(.*')", "'(.*'", None),
+    ("P310", "label_replace(x, 'a', '', 'b', '(?x) c')", "'(?x) c'", None),
+    ("P310", "label_replace(x, ('a b'), '', 'b', 'c')", "'a b'", None),
+    ("P310", "label_replace(x, '', '', 'b', 'c')", "''", None),
+    ("P310", "label_join(x, 'a', ',', 'b', 'c-d')", "'c-d'", None),
+    ("P310", "count_values('é', x)", "'é'", None),
     ("P401", "sum(sum by (a) (x)) by (b)", "b", None),
     ("P401", "sum by (le) (histogram_quantile(0.9, x))", "le", None),
     ("P401", "max by (a, c) (absent(x{a='b'}))", "c", None),
@@ -107,8 +151,19 @@ FOUND = (
     ("P404", "x{a='b'} / sum(y)", "/", None),
     ("P404", "sum by (b) (y) and x{a='b'}", "and", None),
     ("P404", "x{a=~'b.+'} / ignoring (c) sum by (c) (y)", "/", None),
+    ("P404", "x{a='b'} and x{a='c'}", "and", None),
+    ("P404", "absent(x{a='b'}) * on (a) (y{a='c'} or z{a='c'})", "*", None),
+    ("P404", "sum by (a) (x{a='b'}) unless ignoring (d) y{a='c'}", "unless", None),
     ("P405", "absent((up{a!='b',a='c'}))", "up{a!='b',a='c'}", None),
     ("P405", "absent_over_time(up{a='b',a='b'}[5m])", "up{a='b',a='b'}[5m]", None),
+    ("P406", "job:errors:sum{job='a',zone='b'}", "zone='b'", None),
+    ("P406", "sum({__name__='zone:errors:max',job=~'.+'})", "job=~'.+'", None),
+    ("P406", "given:errors:sum{job='a',team='shop'}", "job='a'", None),
+    ("P406", "rate(two:errors:sum{instance!=''}[5m])", "instance!=''", None),
+    ("P407", "sum by (a) (x) / sum(y)", "/", None),
+    ("P407", "sum by (a) (x) + sum by (b) (y)", "+", None),
+    ("P407", "sum(x) and count by (a) (y) > 1", "and", None),
+    ("P407", "sum by (a, b) (x) == ignoring (b) max(y)", "==", None),
     ("P501", "up", "up", None),
     ("P501", "up > 1 or vector(0)", "up > 1 or vector(0)", None),
     ("P501", "sum(rate(x_total[5m])) * 2", "sum(rate(x_total[5m])) * 2", None),
@@ -116,6 +171,12 @@ FOUND = (
     ("P502", "(a > bool ignoring (b) c)", "bool", None),
     ("P503", "sum(up) == 0", "sum(up) == 0", None),
     ("P503", "absent(up == 0)", "absent(up == 0)", None),
+    ("P504", "up", "up", None),
+    ("P505", "up", "up", None),
+    ("P701", "max( up )", "max( up )", None),
+    ("P701", "sum(up)", "sum(up)", None),
+    ("P702", "sum(job:load:max) + A", "job:load:max", None),
+    ("P703", "up + job:errors:rate1m", "job:errors:rate1m", None),
     ("P601", "(up)", "(up)", "up"),
     ("P601", "a and(b)", "(b)", "a and b"),
     ("P601", "a - +(b)", "(b)", "a - +b"),
@@ -161,6 +222,10 @@ NOT_FOUND = (
     ("P206", "rate(x[5m])"),
     ("P207", "max_over_time(rate(x[1m])[10m:1m]) > 1"),
     ("P207", "x offset 1m > 1"),
+    ("P208", "histogram_quantile(0.9, rate(x_bucket[5m]))"),
+    ("P208", "histogram_quantile(0.9, x)"),
+    ("P208", "histogram_quantile(0.9, job:x_bucket)"),
+    ("P208", "sum by (le) (x_bucket)"),
     ("P301", "vector(time()) > 2"),
     ("P302", "up == 0"),
     ("P302", "up == Inf"),
@@ -177,6 +242,31 @@ NOT_FOUND = (
     ("P306", "histogram_quantile(0.9, sum(rate(x[5m])))"),
     ("P306", "histogram_quantile(0.9, sum by (le) (x_bucket))"),
     ("P306", "histogram_quantile(0.9, sum without (a) (x_bucket))"),
+    ("P308", "x > 3 < 5"),
+    ("P308", "x >= 5 <= 5"),
+    ("P308", "hour() > 22"),
+    ("P308", "hour() - 24 == 0"),
+    ("P308", "count(x) == bool 0"),
+    ("P308", "x > NaN"),
+    ("P308", "(count(x) or vector(0)) > 5 < 6"),
+    ("P308", "(x > 5 or x < 3) < 4"),
+    ("P308", "x > 5 and y < 3"),
+    ("P308", "x > 5 and on (a) x < 3"),
+    ("P308", "x > bool 5 and x < bool 3"),
+    ("P308", "x > 5 or x < 3"),
+    ("P308", "x == x"),
+    ("P308", "x > x offset 1h"),
+    ("P308", "x > on (a) x"),
+    ("P308", "x > on (a) fill_right (7) y < 3"),
+    ("P309", "count(x) > 0"),
+    ("P309", "count(x) >= 1"),
+    ("P309", "absent(x) == 1"),
+    ("P309", "abs(x) >= 0"),
+    ("P309", "hour() >= 8"),
+    ("P309", "hour() != 30"),
+    ("P310", "label_replace(x, 'a', '$1', 'b', '(.*):.*')"),
+    ("P310", "label_replace(x, 'service.name', 'c d', 'e f', '')"),
+    ("P310", "label_join(x, 'a', ' - ', 'b')"),
     ("P401", "sum by (a) (topk(2, x))"),
     ("P401", "sum by (a) (absent(x{a!='c',a='b'}))"),
     ("P401", "sum by (a) (label_replace(sum(x), 'a', '$1', 'b', '(.*)'))"),
@@ -194,6 +284,25 @@ NOT_FOUND = (
     ("P404", "x{a=~'b.*|'} / sum(y)"),
     ("P404", "x{a!='b'} / sum(y)"),
     ("P404", "x{a='b'} * 2"),
+    ("P404", "x{a='b'} or x{a='c'}"),
+    ("P404", "x{a='b'} * on (d) x{a='c'}"),
+    ("P404", "x{a='b'} * on (a) y{a='b'}"),
+    ("P404", "label_replace(x{a='b'}, 'a', 'c', '', '') * on (a) y{a='c'}"),
+    ("P404", "(x{a='b'} or x{a='d'}) * y{a='c'}"),
+    ("P404", "(x{a='b'} * on (d) group_left (a) z) * on (a, d) y{a='c'}"),
+    ("P406", "job:errors:sum{job='a'}"),
+    ("P406", "job:errors:sum{zone!='a'}"),
+    ("P406", "two:errors:sum{zone='a'}"),
+    ("P406", "self:errors:sum{zone='a'}"),
+    ("P406", "group:errors:sum{zone='a'} + broken:errors:sum{zone='a'} + up{zone='a'}"),
+    ("P407", "sum by (a) (x) / on () group_left () sum(y)"),
+    ("P407", "sum by (a) (x) / sum by (a) (y)"),
+    ("P407", "sum by (a) (x) / y"),
+    ("P407", "sum by (a) (x) or sum(y)"),
+    ("P407", "sum by (a) (x) > 2 and on () hour() > 8"),
+    ("P407", "sum by (a, b) (x) / ignoring (b) group_left () sum by (a) (y)"),
+    ("P407", "sum by (a) (x) / scalar(sum(y))"),
+    ("P407", "sum by (a) (x{a=''}) / sum(y)"),
     ("P405", "absent(up{a='b',c='d'})"),
     ("P405", "absent(up{a!='b',a!='c'})"),
     ("P405", "sum(up{a!='b',a='c'})"),
@@ -206,6 +315,9 @@ NOT_FOUND = (
     ("P502", "(x > 1) == bool 2"),
     ("P503", "up == 0"),
     ("P503", "sum by (zone) (up) == 0"),
+    ("P701", "max by (a) (up)"),
+    ("P702", "job:load:max offset 1m + max_over_time(job:load:max[5m])"),
+    ("P703", "job:errors:sum + up + job:requests:sum + errors:sum"),
     ("P601", "(a + b) * 2"),
     ("P601", "(a / b) > 1"),
     ("P601", "(a > 1) and (b > 2)"),
@@ -254,6 +366,11 @@ class Rules(unittest.TestCase):
         self.assertEqual({code for code, *_ in FOUND}, set(known_codes()) - {"P003"})
         self.assertLessEqual({code for code, _ in NOT_FOUND}, set(known_codes()))
 
+    def test_no_context(self):
+        """What is found goes by the rule that has the query."""
+        for code, query in (("P504", "up"), ("P505", "up"), ("P701", "sum(up)"), ("P702", "job:load:max"), ("P703", "job:errors:rate1m")):
+            self.assertEqual(lint(query, select=(code,), context=RuleContext(record="a")), [])
+
     def test_page(self):
         entries = {code: (name, text) for code, name, text in ENTRY.findall(PAGE.read_text() + "##")}
         self.assertEqual(list(entries), sorted(RULES))
@@ -264,14 +381,27 @@ class Rules(unittest.TestCase):
                 self.assertEqual([kind for kind, _ in EXAMPLE.findall(text)], ["Bad", "Good"])
                 (_, bad), (_, good) = EXAMPLE.findall(text)
                 self.assertEqual({it.code for it in found_by(code, bad)}, {code})
-                self.assertEqual([it.code for it in lint(good, context=CONTEXTS.get(code))], [])
+                self.assertEqual([it.code for it in lint(good, context=None if code in BY_CONTEXT else CONTEXTS.get(code))], [])
                 self.assertEqual("Fixed" in text, any(it.fix for it in found_by(code, bad)))
 
     def test_fixes_together(self):
-        self.assertEqual(fix("((up{ a=~'^b$',c=~'.*' })) # ((d))"), "up{ a='b' } # ((d))")
+        self.assertEqual(fix("((up{ a=~'^b$',c='d',c='d' })) # ((d))"), "up{ a='b',c='d' } # ((d))")
         self.assertEqual(fix("up{}\n  ==  # why\n  (1)"), "up\n  ==  # why\n  1")
+        self.assertEqual(fix("nl{a=~'^.*$'}"), "nl{a=~'^.*$'}")
         self.assertEqual(fix("up{a=~'b'}", ignore=("P103",)), "up{a=~'b'}")
         self.assertEqual(fix("up +"), "up +")
+
+    def test_lines_of_parentheses(self):
+        """No line of blanks is left, and each comment ends where it did."""
+        for query, fixed in (
+            ("(  # why\n  up\n)", "# why\n  up"),
+            ("a / (\n  b # why\n  )\n* 2", "a / b # why\n* 2"),
+            ("a / (\n  b # why\n  ) * 2", "a / b # why\n   * 2"),
+            ("# why\n(\n  up\n)", "# why\nup"),
+            ("sum(\n  (\n    up # why\r  )\n)", "sum(\n  up # why\n)"),
+            ('(\n  up{a="#"}\n) # why', 'up{a="#"}\n # why'),
+        ):
+            self.assertEqual(fix(query), fixed)
 
     def test_fix_that_would_lose_a_comment(self):
         query = "up{ # why\n}"

@@ -22,6 +22,9 @@ except ImportError:
 
 HERE = Path(__file__).resolve().parent
 PAGE = HERE.parents[2] / "docs/guide/lint.md"
+# Rules with mistakes: above each the code of what is to find it, or `none`.
+MISTAKES = HERE / "files/mistakes/rules.yml"
+MISTAKE = re.compile(r"^      # (P\d{3}|none): .+\n      - ", re.M)
 HAS_YAML = unittest.skipUnless(ruamel, "there is no ruamel.yaml here")
 # Where a package of Debian, ceph-prometheus-alerts, has its rules, and ceph-grafana-dashboards its dashboards.
 ALERTS = Path("/etc/prometheus/ceph/ceph_default_alerts.yml")
@@ -170,7 +173,7 @@ class Boards(Folder):
                 'sum(rate(${m}_total{a=~"$x",b=~"c.+"}[$__interval])) > ($y)',
             ),
             ("[[f]]({}) + $z{}", None),
-            ("$x{a=~'b'} + up{c=~'$y', d=~'.*'}", "$x{a='b'} + up{c=~'$y'}"),
+            ("$x{a=~'b'} + up{c=~'$y', d='e', d='e'}", "$x{a='b'} + up{c=~'$y', d='e'}"),
             ('up{a=~"b\\\\.c"} / on ($l) ($x)', 'up{a="b.c"} / on ($l) ($x)'),
             ("($x + 1) + (($y)) + ($f(up)) + (up{a='$x'})", "($x + 1) + ($y) + ($f(up)) + up{a='$x'}"),
         ):
@@ -272,6 +275,99 @@ class Files(Folder):
         asked = "{{ if $labels.zone }}{{ $labels.zone }}{{ end }}"
         path = self.file(RULES.replace("{{ $labels.zone }}", asked).replace("== 0", "> bool 0"))
         self.assertEqual(self.codes(path, "--select", "P5"), [("P502", 6)])
+
+    def test_mistakes(self):
+        """Each mistake is found by its rule, and most of them by nothing else."""
+        text = MISTAKES.read_text()
+        wanted = {text.count("\n", 0, it.end()) + 1: it[1] for it in MISTAKE.finditer(text)}
+        found = {}
+        for code, line in self.codes(MISTAKES):
+            found.setdefault(line, set()).add(code)
+        self.assertEqual(set(found), {line for line, code in wanted.items() if code != "none"})
+        for line, codes in found.items():
+            self.assertIn(wanted[line], codes)
+        self.assertGreater(len(found), 55)
+        self.assertEqual([codes for codes in found.values() if len(codes) > 1], [{"P103", "P109", "P405"}])
+
+    def rules(self, *rules, labels=""):
+        """A file with one group of these rules."""
+        return self.file(f"groups:\n- name: a\n{labels}  rules:\n" + "".join(f"  - {{{rule}}}\n" for rule in rules))
+
+    def test_recorded_labels(self):
+        """The labels of a recorded metric are those that its rule keeps, and gives."""
+        alert = "alert: C, expr: 'max by (zone, team) (a:b:sum) > 1'"
+        for labels, count in (("", 2), (", labels: {team: x}", 1), (", labels: {team: x, zone: y}", 0)):
+            path = self.rules(f"record: 'a:b:sum', expr: sum(b){labels}", alert)
+            self.assertEqual(self.codes(path), [("P401", 5)] * count, labels)
+        path = self.rules("record: 'a:b:sum', expr: sum(b)", alert, labels="  labels: {team: x}\n")
+        self.assertEqual(self.codes(path), [])
+        path = self.rules("record: 'a:b:sum', expr: sum(b)", "record: 'a:b:sum', expr: c", alert)
+        self.assertEqual(self.codes(path), [])
+
+    def test_recorded_labels_of_files(self):
+        """A query is looked at anew where another file records its metrics otherwise."""
+        alert = "alert: C, expr: 'max by (zone) (a:b:sum) > 1'"
+        for by, codes in (("job", [("P401", 5)]), ("zone", []), ("job", [("P401", 5)])):
+            self.assertEqual(self.codes(self.rules(f"record: 'a:b:sum', expr: sum by ({by}) (b)", alert)), codes, by)
+
+    def test_long_chain_of_records(self):
+        rules = ["record: 'a:0:b', expr: sum by (c) (d)"]
+        rules += [f"record: 'a:{number + 1}:b', expr: '2 * a:{number}:b'" for number in range(2_000)]
+        alerts = [f"alert: F, expr: 'max by (e) (a:{number}:b) > 1'" for number in (3, 1_999)]
+        begin = time.monotonic()
+        self.assertEqual(self.codes(self.rules(*alerts, *rules)), [("P401", 4), ("P401", 5)])
+        self.assertEqual(self.codes(self.rules(*rules, *alerts)), [("P401", 2005), ("P401", 2006)])
+        self.assertLess(time.monotonic() - begin, 10)
+
+    def test_many_records_of_one_name(self):
+        rules = [f"record: 'a:b:c', expr: sum by (d{number % 100}) (e) + {number}" for number in range(1_000)]
+        begin = time.monotonic()
+        self.assertEqual(self.codes(self.rules(*rules, "alert: F, expr: 'a:b:c{g=\"h\"} > 1'")), [("P406", 1004)])
+        self.assertLess(time.monotonic() - begin, 10)
+
+    def test_record_of_many_labels(self):
+        """Many labels of a metric are not followed into all that reads it."""
+        by, reads = ", ".join(f"b{number}" for number in range(4_000)), "+".join(["a"] * 400)
+        alerts = [f"alert: d, expr: 'sum by (e) ({reads}) > {number}'" for number in range(20)]
+        path = self.rules(f"record: a, expr: 'sum by ({by}) (c)'", *alerts)
+        begin = time.process_time()
+        self.assertEqual(self.codes(path), [])
+        self.assertLess(time.process_time() - begin, 10)
+
+    def test_circles(self):
+        circle = [f"record: a{number}, expr: sum(a{(number + 1) % 500})" for number in range(500)]
+        self.assertEqual({code for code, _ in self.codes(self.rules(*circle))}, {"P702"})
+        self.assertEqual(self.codes(self.rules(*circle[:-1])), [])
+        self.assertEqual(self.codes(self.rules("record: a, expr: 'sum(c{d=\"b\"})'", "record: b, expr: max(a)")), [])
+        self.assertEqual(self.codes(self.rules("record: a, expr: sum(a)")), [("P702", 4)])
+
+    def test_recorded_twice(self):
+        one, two = "record: a, expr: sum by (b) (c)", "record: a, expr: 'sum by (b)  (c)'"
+        self.assertEqual(self.codes(self.rules(one, two)), [("P701", 5)])
+        self.assertEqual(self.codes(self.rules(one, f"{two}, labels: {{d: e}}")), [])
+        self.assertEqual(self.codes(self.rules(one, "record: a, expr: sum by (b) (d)")), [])
+
+    def test_templates(self):
+        for label, is_found in (
+            ("{{ $value }}", True),
+            ("{{- .Value | humanize }}", True),
+            ('{{ printf "%.2f" $value }}', True),
+            ("{{ if gt $value 5.0 }}high{{ else }}low{{ end }}", False),
+            ("{{/* $value */}}x", False),
+            ("{{ $labels.zone }} {{ $values }}", False),
+            ("$value", False),
+        ):
+            path = self.file(RULES.replace("annotations: {summary", "labels: {summary").replace('"{{ $labels.zone }}"', f"'{label}'"))
+            self.assertEqual([code for code, _ in self.codes(path, "--select", "P5")], ["P504"] * is_found, label)
+        for template, is_found in (
+            ('{{ query "sum(up" }}', True),
+            ("{{ range query `up{a=~\"(\"}` }}{{ end }}", True),
+            ('{{ with query "up{job=\\"a\\"}" }}{{ . | first | value }}{{ end }}', False),
+            ('{{ printf "up{" | query }} query "sum("', False),
+            ('{{ query "a\\qb" }}', False),
+        ):
+            path = self.file(RULES.replace('"{{ $labels.zone }}"', f"'{template}'"))
+            self.assertEqual([code for code, _ in self.codes(path, "--select", "P5")], ["P505"] * is_found, template)
 
     def test_aliases(self):
         text = "groups:\n- name: a\n  rules:\n  - record: b\n    expr: &x irate(c[5m]) > (1)\n  - alert: D\n    expr: *x\n"

@@ -1,9 +1,10 @@
-"""Rules about alerts: P501 to P503."""
+"""Rules about alerts: P501 to P505."""
 
 from __future__ import annotations
 
 from typing import Iterator
 
+from .argument_rules import why_rejected
 from .findings import Remark, Severity, Tree
 from .subject import Subject
 from .table import rule
@@ -40,6 +41,23 @@ def lost_template_label(subject: Subject) -> Iterator[Remark]:
         if label != "__name__" and not labels.may_have(label):
             message = f"a template has `$labels.{label}`, which is empty: no series of the query has this label"
             yield Remark(subject.whole, message)
+
+
+@rule("P504", "value-in-label", Severity.WARNING)
+def value_in_label(subject: Subject) -> Iterator[Remark]:
+    """A label of an alert with the value of the query in it."""
+    for label in sorted(subject.context.value_labels):
+        message = f"the label `{label}` changes with the value, and each time that is another alert: show the value in an annotation"
+        yield Remark(subject.whole, message)
+
+
+@rule("P505", "template-query", Severity.ERROR)
+def template_query(subject: Subject) -> Iterator[Remark]:
+    """A query in a template of the alert that is rejected."""
+    for query in subject.context.template_queries:
+        reason = why_rejected(query)
+        if reason:
+            yield Remark(subject.whole, f"the template's query `{query}` is rejected: {reason}")
 
 
 def _is_meant_to_fire(node: Tree) -> bool:

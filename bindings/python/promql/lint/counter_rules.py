@@ -1,4 +1,4 @@
-"""Rules about counters and ranges: P201 to P207."""
+"""Rules about counters and ranges: P201 to P208."""
 
 from __future__ import annotations
 
@@ -120,3 +120,16 @@ def _is_in_subquery(subject: Subject, node: Tree) -> bool:
 
 def _is_subquery(node: Tree) -> bool:
     return bool(node["type"] == "subquery")
+
+
+@rule("P208", "quantile-of-counter", Severity.WARNING)
+def quantile_of_counter(subject: Subject) -> Iterator[Remark]:
+    """A quantile of buckets as they are, which count all since the start of their process."""
+    for call in subject.calls("histogram_quantile"):
+        node = inner(call["args"][1])
+        while node["type"] == "aggregation":
+            node = inner(node["expr"])
+        name = subject.metric(node) if node["type"] == "vectorSelector" else None
+        if name and name.endswith("_bucket") and ":" not in name:
+            message = f"`{name}` counts since the start of its process: take its `rate`, of which the quantile is that of now"
+            yield Remark(subject.span(node), message)

@@ -84,11 +84,12 @@ class FileLinter:
             self._take_rules(document)
 
     def _take_rules(self, file: RuleFile) -> None:
-        found = rules_of(file)
+        budget = Budget(self._budget.most)
+        found = rules_of(file, budget)
         for rule in found.places:
             self._rules.setdefault(rule.query_end, []).append(rule)
         for text in file.texts:
-            for rule in rules_of(text.document).places if isinstance(text.document, RuleFile) else ():
+            for rule in rules_of(text.document, budget).places if isinstance(text.document, RuleFile) else ():
                 placed = RulePlace(text.at(rule.start), text.at(rule.end), text.at(rule.query_end), rule.context)
                 self._rules.setdefault(placed.query_end, []).append(placed)
         message = f"its aliases are in groups of more than {MOST_INTERVALS} intervals: the rule is looked at with {MOST_INTERVALS} of these"

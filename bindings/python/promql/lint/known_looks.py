@@ -55,9 +55,10 @@ class KnownLooks:
             if context.recorded != self._recorded:
                 self._known, self._kept = {}, 0
             self._recorded = context.recorded
-        key = (query, selection, has_fixes, *context.key)
+        key = (query, selection, has_fixes, context.records.key_of(query), *context.key)
         if key not in self._known:
-            take(query, budget)
+            for text in (query, *context.template_queries):
+                take(text, budget)
             found = [_without_changes(it) for it in look_at(query, selection, context, is_written, has_fixes, explains)]
             self._kept += len(query) + _FINDING * (1 + len(found))
             if self._kept > _MOST_KEPT:

@@ -1,8 +1,9 @@
-"""Which labels the series of an expression may have, and which they surely have, as far as the query tells."""
+"""Which labels the series of an expression may have, and which they surely have, as far as the query tells
+(docs/reference/label-flow.md)."""
 
 from __future__ import annotations
 
-from typing import Callable, Dict, FrozenSet, NamedTuple, Optional, Set
+from typing import Callable, Dict, FrozenSet, NamedTuple, Optional, Set, Tuple
 
 from . import patterns
 from .findings import Tree
@@ -23,6 +24,10 @@ class Labels(NamedTuple):
     without: FrozenSet[str] = _NONE
     # Those that each series has.
     sure: FrozenSet[str] = _NONE
+    # Those that somebody who wrote the query sees in each series, since they are after `by`.
+    named: FrozenSet[str] = _NONE
+    # Those of which each series has this value.
+    values: FrozenSet[Tuple[str, str]] = frozenset()
 
     def may_have(self, label: str) -> bool:
         return label in self.only if self.only is not None else label not in self.without
@@ -33,36 +38,40 @@ class Labels(NamedTuple):
 
     def kept(self, labels: FrozenSet[str]) -> Labels:
         """Only these."""
-        return Labels(labels - self.lacked(labels), _NONE, self.sure & labels)
+        return self._with(labels - self.lacked(labels), _NONE, lambda label: label in labels)
 
     def dropped(self, labels: FrozenSet[str]) -> Labels:
-        if self.only is not None:
-            return Labels(self.only - labels, _NONE, self.sure - labels)
-        return Labels(None, self.without | labels, self.sure - labels)
+        only = None if self.only is None else self.only - labels
+        return self._with(only, self.without | labels if only is None else _NONE, lambda label: label not in labels)
 
     def added(self, *labels: str) -> Labels:
         """With more, which a series may have or not."""
-        only = self.only.union(labels) if self.only is not None else None
-        return Labels(only, self.without.difference(labels), self.sure.difference(labels))
+        only = None if self.only is None else self.only.union(labels)
+        return self._with(only, self.without.difference(labels), lambda label: label not in labels)
+
+    def _with(self, only: Optional[FrozenSet[str]], without: FrozenSet[str], stays: Callable[[str], bool]) -> Labels:
+        """Other labels, of which those that stay are as they were."""
+        sure, named = frozenset(filter(stays, self.sure)), frozenset(filter(stays, self.named))
+        return Labels(only, without, sure, named, frozenset(it for it in self.values if stays(it[0])))
 
     def both(self, other: Labels) -> Labels:
         """Those of series that have the same labels in both."""
-        sure = self.sure | other.sure if self.sure and other.sure else self.sure or other.sure
+        made = Labels(None, _NONE, self.sure | other.sure, self.named | other.named, self.values | other.values)
         if self.only is not None:
-            return Labels(self.only - other.lacked(self.only), _NONE, sure)
+            return made._replace(only=self.only - other.lacked(self.only))
         if other.only is not None:
-            return Labels(other.only - self.lacked(other.only), _NONE, sure)
-        return Labels(None, self.without | other.without, sure)
+            return made._replace(only=other.only - self.lacked(other.only))
+        return made._replace(without=self.without | other.without)
 
     def either(self, other: Labels) -> Labels:
         """Those of series of the one or of the other."""
-        sure = self.sure & other.sure
+        made = Labels(None, _NONE, self.sure & other.sure, self.named & other.named, self.values & other.values)
         if self.only is not None and other.only is not None:
-            return Labels(self.only | other.only, _NONE, sure)
+            return made._replace(only=self.only | other.only)
         unbounded = [it for it in (self, other) if it.only is None]
         without = frozenset.intersection(*(it.without for it in unbounded))
         bounded = [it.only for it in (self, other) if it.only is not None]
-        return Labels(None, without.difference(*bounded), sure)
+        return made._replace(without=without.difference(*bounded))
 
 
 _EMPTY = Labels(_NONE)
@@ -72,7 +81,9 @@ _ANY = Labels()
 class LabelFlow:
     """The labels of the series of each node, of which each is looked at once."""
 
-    def __init__(self) -> None:
+    def __init__(self, recorded: Callable[[str], Optional[Labels]] = lambda name: None) -> None:
+        # The labels of a metric that a rule records, where they are known.
+        self._recorded = recorded
         self._found: Dict[int, Labels] = {}
         self._scalars: Dict[int, bool] = {}
 
@@ -102,9 +113,13 @@ class LabelFlow:
     def _of_vectorSelector(self, node: Tree) -> Labels:
         if "or_matchers" in node:
             return _ANY
-        absent = frozenset(it["name"] for it in node["matchers"] if it["type"] == "=" and it["value"] == "")
-        sure = frozenset(it["name"] for it in node["matchers"] if _needs_value(it)) - {NAME}
-        return Labels(None, absent, sure - absent)
+        equal = {(it["name"], it["value"]) for it in node["matchers"] if it["type"] == "="}
+        absent = frozenset(name for name, value in equal if not value)
+        sure = frozenset(it["name"] for it in node["matchers"] if needs_value(it)) - {NAME}
+        values = frozenset(it for it in equal if it[1] and it[0] != NAME)
+        labels = Labels(None, absent, sure - absent, values=values)
+        recorded = self._recorded(name_of(node))
+        return labels.both(recorded) if recorded else labels
 
     _of_matrixSelector = _of_vectorSelector
 
@@ -118,7 +133,7 @@ class LabelFlow:
         if node["op"] in _CHOOSING:
             return below
         labels = frozenset(node["grouping"])
-        made = below.dropped(labels | {NAME}) if node["without"] else below.kept(labels)
+        made = below.dropped(labels | {NAME}) if node["without"] else below.kept(labels)._replace(named=below.kept(labels).only or _NONE)
         parameter = node["param"] and inner(node["param"])
         return made.added(parameter["val"]) if node["op"] == "count_values" and parameter else made
 
@@ -158,7 +173,13 @@ class LabelFlow:
         return self.of(vectors[0]) if len(vectors) == 1 else _ANY
 
 
-def _needs_value(matcher: Tree) -> bool:
+def name_of(node: Tree) -> str:
+    """The metric that a selector reads, or nothing."""
+    names = [it["value"] for it in node["matchers"] if it["name"] == NAME and it["type"] == "="]
+    return str(node["name"] or "".join(names[:1]))
+
+
+def needs_value(matcher: Tree) -> bool:
     """Whether a series without the label does not match."""
     kind, value = matcher["type"], matcher["value"]
     if kind in ("=", "!="):
@@ -170,13 +191,13 @@ def _of_absent(node: Tree) -> Labels:
     """A series has the labels of matchers with `=`, but for those with another matcher after it."""
     if node["type"] not in ("vectorSelector", "matrixSelector") or "or_matchers" in node:
         return _EMPTY
-    labels: Set[str] = set()
+    labels: Dict[str, str] = {}
     equal: Set[str] = set()
     for matcher in node["matchers"]:
         name = matcher["name"]
         if matcher["type"] == "=" and matcher["value"] and name != NAME and name not in equal:
             equal.add(name)
-            labels.add(name)
+            labels[name] = matcher["value"]
         else:
-            labels.discard(name)
-    return Labels(frozenset(labels), _NONE, frozenset(labels))
+            labels.pop(name, None)
+    return Labels(frozenset(labels), _NONE, frozenset(labels), values=frozenset(labels.items()))

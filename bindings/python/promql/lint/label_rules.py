@@ -1,12 +1,13 @@
-"""Rules about labels that are not there, or not for sure: P401 to P405."""
+"""Rules about labels that are not there, or not for sure: P401 to P407."""
 
 from __future__ import annotations
 
 from collections import Counter
-from typing import FrozenSet, Iterator
+from typing import FrozenSet, Iterator, Tuple
 
 from .findings import Remark, Severity, Tree
-from .label_flow import Labels
+from .label_flow import Labels, needs_value
+from .strings import requoted
 from .subject import Subject
 from .table import rule
 from .trees import NAME, fills, inner, matching_of
@@ -63,16 +64,36 @@ def grouped_label(subject: Subject) -> Iterator[Remark]:
 
 @rule("P404", "never-matched", Severity.ERROR)
 def never_matched(subject: Subject) -> Iterator[Remark]:
-    """Sides of an operator of which one surely has a label that the other cannot have."""
+    """Sides of an operator of which one surely has a label that the other cannot have, or of which both have it with other values."""
     for node, left, right in subject.matched:
-        if node["op"] == "or" or fills(node):
-            continue
-        for side, has, other in (("left", left, right), ("right", right, left)):
-            lacking = sorted(_compared(node, other.lacked(has.sure)))
-            if lacking and all(map(subject.is_written, lacking)):
-                message = f"no series match: those of the {side} side have the label `{lacking[0]}`, and those of the other have not"
-                yield Remark(subject.head(node), message)
-                break
+        why = _why_never(subject, node, left, right)
+        if why:
+            yield Remark(subject.head(node), f"no series match: {why}")
+
+
+def _why_never(subject: Subject, node: Tree, left: Labels, right: Labels) -> str:
+    """Why no series of both sides match, or nothing."""
+    lacking = _lacking(subject, node, (left, left.sure), (right, right.sure))
+    if lacking or node["op"] == "or" or fills(node):
+        return lacking
+    here, there = dict(sorted(left.values)), dict(sorted(right.values))
+    differing = frozenset(label for label in here.keys() & there.keys() if here[label] != there[label])
+    for label in sorted(_compared(node, differing)):
+        if subject.is_written(here[label]) and subject.is_written(there[label]):
+            values = f"{requoted('', here[label])} on the left side, and {requoted('', there[label])} on the right"
+            return f"the label `{label}` has the value {values}"
+    return ""
+
+
+def _lacking(subject: Subject, node: Tree, left: Tuple[Labels, FrozenSet[str]], right: Tuple[Labels, FrozenSet[str]]) -> str:
+    """That one side has a label, of some that are to be looked at, which the other side cannot have; or nothing."""
+    if node["op"] == "or" or fills(node):
+        return ""
+    for side, (_, has), (other, _) in (("left", left, right), ("right", right, left)):
+        lacking = sorted(_compared(node, other.lacked(has)))
+        if lacking and all(map(subject.is_written, lacking)):
+            return f"those of the {side} side have the label `{lacking[0]}`, and those of the other have not"
+    return ""
 
 
 @rule("P405", "label-by-order", Severity.WARNING)
@@ -93,3 +114,28 @@ def _compared(node: Tree, labels: FrozenSet[str]) -> FrozenSet[str]:
     """Those of the labels that have to be equal on both sides."""
     named = frozenset(matching_of(node)["labels"])
     return labels & named if matching_of(node)["on"] else labels - named
+
+
+@rule("P406", "matcher-without-label", Severity.ERROR)
+def matcher_without_label(subject: Subject) -> Iterator[Remark]:
+    """A matcher of a label that the rule of this file which records the metric does not keep."""
+    for node in subject.selectors:
+        name = subject.metric(node)
+        recorded = subject.context.records.labels_of(name) if name else None
+        lacked = recorded.lacked(frozenset(it.name for it in subject.matchers(node))) if recorded else ()
+        for matcher in subject.matchers(node) if lacked and "or_matchers" not in node else ():
+            if matcher.name in lacked and matcher.name != NAME and needs_value(matcher.tree):
+                place = subject.matcher_place(node, matcher)
+                message = f"no series match: the rule that records `{name}` keeps no label `{matcher.name}`"
+                yield Remark(place.whole if place else subject.span(node), message)
+
+
+@rule("P407", "one-sided-label", Severity.ERROR)
+def one_sided_label(subject: Subject) -> Iterator[Remark]:
+    """Sides of an operator of which one is aggregated by a label that the other cannot have."""
+    for node, left, right in subject.matched:
+        # (what `on` has and a side lacks is told by P402)
+        if not matching_of(node)["on"] and not _why_never(subject, node, left, right):
+            lacking = _lacking(subject, node, (left, left.named), (right, right.named))
+            if lacking:
+                yield Remark(subject.head(node), f"no series match: {lacking}; `on` or `ignoring` tells which labels are compared")

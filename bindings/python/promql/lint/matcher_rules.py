@@ -142,9 +142,9 @@ def matches_all(subject: Subject) -> Iterator[Remark]:
     """A matcher that every value matches, also none."""
     for node, matcher in _with_pattern(subject):
         if matcher.operator == "=~" and patterns.matches_everything(matcher.value):
-            fix = _left_out(subject, node, matcher)
+            # (without it Prometheus before 3.0 gives series with a line end in the value as well, so there is no fix)
             message = f"`{_shown(matcher)}` matches every series, also those without the label: leave it out"
-            yield Remark(_span(subject, node, matcher), message, fix)
+            yield Remark(_span(subject, node, matcher), message)
 
 
 @rule("P107", "matches-none", Severity.ERROR)
@@ -152,7 +152,7 @@ def matches_none(subject: Subject) -> Iterator[Remark]:
     """A matcher that no value matches."""
     for node, matcher in _with_pattern(subject):
         if matcher.operator == "!~" and patterns.matches_everything(matcher.value):
-            yield Remark(_span(subject, node, matcher), f"`{_shown(matcher)}` matches no series")
+            yield Remark(_span(subject, node, matcher), f"`{_shown(matcher)}` matches no series without a line end in the label")
 
 
 def _matches(subject: Subject, matcher: SeenMatcher, value: str) -> Optional[bool]:

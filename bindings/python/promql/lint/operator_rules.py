@@ -1,4 +1,4 @@
-"""Rules about operators, and about numbers beside them: P301 to P307."""
+"""Rules about operators, and about numbers beside them: P301 to P309."""
 
 from __future__ import annotations
 
@@ -9,12 +9,14 @@ from ..labels import children_of
 from .findings import Remark, Severity, Tree
 from .subject import Subject
 from .table import rule
-from .trees import inner, is_comparison, number_of
+from .trees import fills, inner, is_comparison, matching_of, number_of
+from .value_flow import TURNED, condition, passing
 
-_TURNED = {"<": ">", ">": "<", "<=": ">=", ">=": "<=", "==": "==", "!=": "!="}
 # What gives at least 1, or nothing at all.
 _COUNTS = ("count", "group")
 _COUNTING_CALLS = ("count_over_time", "absent", "absent_over_time", "present_over_time")
+# What compares a count to ask whether there is little or nothing.
+_OF_FEW = ("==", "<", "<=")
 
 
 def _comparisons_with_number(subject: Subject) -> Iterator[Tuple[Tree, Tree, str, float]]:
@@ -24,7 +26,7 @@ def _comparisons_with_number(subject: Subject) -> Iterator[Tuple[Tree, Tree, str
         if left is None and right is not None and subject.is_as_written(node["rhs"]):
             yield node, inner(node["lhs"]), node["op"], right
         elif right is None and left is not None and subject.is_as_written(node["lhs"]):
-            yield node, inner(node["rhs"]), _TURNED[node["op"]], left
+            yield node, inner(node["rhs"]), TURNED[node["op"]], left
 
 
 @rule("P301", "constant-comparison", Severity.WARNING)
@@ -67,10 +69,10 @@ def never_true(subject: Subject) -> Iterator[Remark]:
     """A comparison with a number that a count never has: where there is nothing to count, it has no value, and not 0."""
     for node, side, operator, number in _comparisons_with_number(subject):
         name = _counting(side)
-        if not name or node["bool"]:
+        if not name or node["bool"] or operator not in _OF_FEW:
             continue
-        is_one = name in ("group", "absent", "absent_over_time", "present_over_time")
-        if _is_below(operator, number, 1) or is_one and operator == "==" and number != 1:
+        if subject.values.of(side).within(passing(operator, number)).is_empty():
+            is_one = not name.startswith("count")
             tells = f"`{name}` gives 1 or nothing" if is_one else f"of nothing `{name}` gives nothing and not 0"
             hint = "" if name.startswith("absent") else "; `absent(..)` and `.. or vector(0)` ask for that"
             message = f"never true: {tells}{hint}"
@@ -84,13 +86,6 @@ def _counting(node: Tree) -> Optional[str]:
     if node["type"] == "call" and node["func"]["name"] in _COUNTING_CALLS:
         return str(node["func"]["name"])
     return None
-
-
-def _is_below(operator: str, number: float, least: float) -> bool:
-    """Whether no number from `least` on compares so."""
-    return (
-        operator == "==" and number < least or operator == "<" and number <= least or operator == "<=" and number < least
-    )
 
 
 @rule("P304", "quantile-out-of-range", Severity.ERROR)
@@ -151,3 +146,41 @@ def experimental_function(subject: Subject) -> Iterator[Remark]:
             name = node["func"]["name"]
             message = f"`{name}` is experimental: Prometheus needs `--enable-feature=promql-experimental-functions`"
             yield Remark(subject.head(node), message)
+
+
+@rule("P308", "contradiction", Severity.ERROR)
+def contradiction(subject: Subject) -> Iterator[Remark]:
+    """A comparison that no value passes, or conditions of one expression of which no value passes both."""
+    for node, side, operator, number in _comparisons_with_number(subject):
+        values, is_told_by_p303 = subject.values.of(side), _counting(side) and operator in _OF_FEW
+        if not is_told_by_p303 and not values.is_empty() and values.within(passing(operator, number)).is_empty():
+            yield Remark(subject.span(node), f"never true: here the values are {values}")
+    for node in subject.of_type("binaryExpr"):
+        message = _why_of_same(node)
+        if message and subject.is_as_written(node):
+            yield Remark(subject.head(node), message)
+
+
+def _why_of_same(node: Tree) -> str:
+    """Why an operator between two parts of which both are about the same gives nothing; or nothing where it does."""
+    operator, left, right = node["op"], inner(node["lhs"]), inner(node["rhs"])
+    if matching_of(node)["labels"] or matching_of(node)["on"] or fills(node):
+        return ""
+    if operator == "and" and is_comparison(left) and is_comparison(right) and not left["bool"] and not right["bool"]:
+        (one, first), (other, second) = condition(left), condition(right)
+        is_never = first.within(second).is_empty() and one == other
+        return "never true: no value of the same expression passes both conditions" if is_never else ""
+    if operator in ("<", ">", "!=", "unless") and number_of(left) is None and left == right:
+        return "never true: both sides are the same" + (", and only what is no number differs from itself" if operator == "!=" else "")
+    return ""
+
+
+@rule("P309", "always-true", Severity.WARNING)
+def always_true(subject: Subject) -> Iterator[Remark]:
+    """A comparison that every value passes."""
+    for node, side, operator, number in _comparisons_with_number(subject):
+        values = subject.values.of(side)
+        # (`> 0` and `== 1` are how one asks whether there is a count)
+        believed = values._replace(low=(0, 0)) if values.low == (1, 0) else values
+        if operator != "!=" and not values.has_nan and not values.is_empty() and believed == believed.within(passing(operator, number)):
+            yield Remark(subject.span(node), f"always true: here the values are {values}")

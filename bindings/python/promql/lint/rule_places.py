@@ -3,18 +3,28 @@
 from __future__ import annotations
 
 import re
+from functools import partial
 from typing import Dict, FrozenSet, Iterator, List, NamedTuple, Optional, Set, Tuple
 
+import promql
+
+from ..checked_queries import Budget
 from ..rule_checks import DURATION, MILLISECONDS, mappings_in
 from ..rule_documents import Kind
 from ..rule_files import RuleFile
 from ..yaml_mappings import Mappings
 from ..yaml_nodes import Node
+from .known_looks import take
+from .records import RecordsReader
 from .subject import RuleContext
 
 _LABEL = re.compile(r"\$labels\.([A-Za-z_]\w*)", re.ASCII)
 # What asks whether there is such a label, before it.
 _QUESTION = re.compile(r"\b(?:if|with|and|or|not)\b")
+# What has the value of the alert's query, what does no more with it than to ask, and a query whose text is there.
+_VALUE = re.compile(r"\$value\b|(?<![\w)])\.Value\b")
+_NO_TEXT = re.compile(r"\{\{-?\s*(?:(?:if|else|with|range|eq|ne|lt|le|gt|ge|and|or|not)\b|/\*|\$\w+\s*:?=)")
+_QUERY = re.compile(r"""\bquery\s+("(?:[^"\\\n]|\\[^\n])*"|`[^`]*`)""")
 _LONGEST_DURATION = 100
 # Aliases may put a rule into groups of so many intervals.
 MOST_INTERVALS = 8
@@ -31,10 +41,13 @@ class RulePlace(NamedTuple):
 
 
 class _Named(NamedTuple):
-    """The labels that templates show, and those of which they ask."""
+    """What templates name: the labels that they show, and those of which they ask."""
 
-    shown: FrozenSet[str]
-    asked: FrozenSet[str]
+    shown: FrozenSet[str] = frozenset()
+    asked: FrozenSet[str] = frozenset()
+    # The texts that have the value in them, by their names, and the queries.
+    values: FrozenSet[str] = frozenset()
+    queries: Tuple[str, ...] = ()
 
 
 class RulePlaces(NamedTuple):
@@ -44,17 +57,19 @@ class RulePlaces(NamedTuple):
     cut: List[int]
 
 
-def rules_of(file: RuleFile) -> RulePlaces:
-    """The rules of a file that have queries. Each is there once for all its aliases in groups of one interval."""
+def rules_of(file: RuleFile, budget: Budget) -> RulePlaces:
+    """The rules of a file that have queries. Each is there once for all its aliases in groups of one interval. The budget is that of the
+    queries that are read to find the labels of recorded metrics."""
     documents = [it for it in file.documents if it.kind is Kind.RULES]
     groups = {id(group): group for it in documents for group in it.groups(file.mappings) if group.kind == "mapping"}
-    return _Reader(file.mappings, list(groups.values())).read()
+    return _Reader(file.mappings, list(groups.values()), budget).read()
 
 
 class _Reader:
-    def __init__(self, mappings: Mappings, groups: List[Node]) -> None:
+    def __init__(self, mappings: Mappings, groups: List[Node], budget: Budget) -> None:
         self._mappings = mappings
         self._groups = groups
+        self._records = RecordsReader(mappings, groups, partial(take, budget=budget))
         # What templates name in labels and annotations, by their node, and what those of a rule show, by both nodes.
         self._named: Dict[int, _Named] = {}
         self._shown: Dict[Tuple[int, int], FrozenSet[str]] = {}
@@ -94,7 +109,11 @@ class _Reader:
         if query and query.is_scalar():
             alert, record = self._text(rule, "alert"), self._text(rule, "record")
             labels = self._template_labels(rule) if alert else frozenset()
-            yield RulePlace(rule.start, _end(rule), query.end, RuleContext(alert, record, interval, labels, recorded))
+            values, queries = self._values_and_queries(rule) if alert else (frozenset(), ())
+            records, same = self._records.records, self._records.same.get(id(rule))
+            circle = records.circle if record in records.circle else frozenset()
+            context = RuleContext(alert, record, interval, labels, recorded, records, circle, same, values, queries)
+            yield RulePlace(rule.start, _end(rule), query.end, context)
 
     def _text(self, mapping: Node, key: str) -> str:
         value = self._mappings.value(mapping, key)
@@ -110,15 +129,35 @@ class _Reader:
             self._shown[place] = frozenset(sorted(shown)[:_MOST_LABELS]) if len(shown) > _MOST_LABELS else shown
         return self._shown[place]
 
+    def _values_and_queries(self, rule: Node) -> Tuple[FrozenSet[str], Tuple[str, ...]]:
+        """The labels with the value in them, and the queries of templates, of which the first ones are taken as above."""
+        owners = [self._mappings.value(rule, key) for key in ("labels", "annotations")]
+        labels, texts = (self._named_in(it) if it and it.kind == "mapping" else _Named() for it in owners)
+        return labels.values, (*labels.queries, *texts.queries)[:_MOST_LABELS]
+
     def _named_in(self, owner: Node) -> _Named:
         if id(owner) not in self._named:
             shown: Set[str] = set()
             asked: Set[str] = set()
-            for _, value in self._mappings.entries(owner):
+            values: Set[str] = set()
+            queries: Dict[str, None] = {}
+            for key, value in self._mappings.entries(owner):
                 for action in _actions(str(value.value)) if value.is_scalar() else ():
                     (asked if _asks(action) else shown).update(_LABEL.findall(action))
-            self._named[id(owner)] = _Named(frozenset(shown), frozenset(asked))
+                    queries.update(dict.fromkeys(_QUERY.findall(action)))
+                    if _VALUE.search(action) and not _NO_TEXT.match(action):
+                        values.add(str(key.value))
+            texts = tuple(filter(None, map(_text_of, queries)))
+            self._named[id(owner)] = _Named(frozenset(shown), frozenset(asked), frozenset(values), texts)
         return self._named[id(owner)]
+
+
+def _text_of(literal: str) -> str:
+    """The text that a literal of a template has, as the library reads it."""
+    try:
+        return str(promql.parse(literal)["val"])
+    except ValueError:
+        return ""
 
 
 def _interval(text: str) -> Optional[int]:

@@ -26,14 +26,17 @@ def needless_parentheses(subject: Subject) -> Iterator[Remark]:
 
 
 def _without(query: str, span: Span) -> Tuple[TextEdit, ...]:
-    """Edits that take parentheses away, with the white space in them where no comment may need it."""
+    """Edits that take parentheses away, with the white space in them, but for what ends a comment."""
     start, end = span
     first, last = start + 1, end - 1
-    if "#" not in query:
-        while first < last and query[first].isspace():
-            first += 1
-        while first < last and query[last - 1].isspace():
-            last -= 1
+    while first < last and query[first].isspace():
+        first += 1
+    blank = last
+    while first < blank and query[blank - 1].isspace():
+        blank -= 1
+    # (what ends the line ends a comment as well)
+    if "#" not in query or "#" not in query[query.rfind("\n", 0, blank) + 1 : blank] or query[end:].lstrip(" \t\r")[:1] in ("", "\n"):
+        last = blank
     before = " " if _is_word(query, start - 1) and _is_word(query, first) else ""
     after = " " if _is_word(query, last - 1) and _is_word(query, end) else ""
     return TextEdit(start, first, before), TextEdit(last, end, after)

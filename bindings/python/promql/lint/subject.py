@@ -4,13 +4,14 @@ from __future__ import annotations
 
 from dataclasses import dataclass, field
 from functools import cached_property
-from typing import Callable, Dict, FrozenSet, Iterator, List, Mapping, NamedTuple, Optional, Sequence, Set, Tuple
+from typing import Callable, Dict, FrozenSet, Hashable, Iterator, List, Mapping, NamedTuple, Optional, Sequence, Set, Tuple
 
 from ..labels import children_of, nodes_of
 from .findings import Span, Tree
-from .label_flow import LabelFlow, Labels
+from .label_flow import LabelFlow, Labels, name_of
 from .places import MatcherPlace, NodePlace, Places
-from .trees import NAME
+from .records import NO_RECORDS, Records
+from .value_flow import ValueFlow
 
 # Of a text in a message, and what is looked at for that.
 _LONGEST = 60
@@ -32,11 +33,18 @@ class RuleContext:
     template_labels: FrozenSet[str] = frozenset()
     # The metrics that this file records in groups with an interval, and the interval.
     recorded: Mapping[str, int] = field(default_factory=dict)
+    # The same with their labels; those that are recorded in a circle with that of the rule; a query before it that records the same.
+    records: Records = NO_RECORDS
+    circle: FrozenSet[str] = frozenset()
+    same_query: Optional[str] = None
+    # The labels of the alert that have the value of the query in their text, and the queries in its templates.
+    value_labels: FrozenSet[str] = frozenset()
+    template_queries: Tuple[str, ...] = ()
 
     @property
-    def key(self) -> Tuple[bool, Optional[int], FrozenSet[str]]:
+    def key(self) -> Tuple[Hashable, ...]:
         """What the rules ask for, but for what is recorded."""
-        return bool(self.alert), self.interval, self.template_labels
+        return bool(self.alert), self.interval, self.circle, self.same_query, self.template_labels, self.value_labels, self.template_queries
 
 
 IsWritten = Callable[[str], bool]
@@ -87,7 +95,12 @@ class Subject:
     @cached_property
     def labels(self) -> LabelFlow:
         """Which labels the series of each node may have."""
-        return LabelFlow()
+        return LabelFlow(self.context.records.labels_of)
+
+    @cached_property
+    def values(self) -> ValueFlow:
+        """Between which numbers the values of each node are."""
+        return ValueFlow()
 
     @cached_property
     def matched(self) -> List[Tuple[Tree, Labels, Labels]]:
@@ -205,10 +218,7 @@ class Subject:
 
     def metric(self, node: Tree) -> Optional[str]:
         """The name of the metric that a selector reads, where it is one that somebody wrote."""
-        name: Optional[str] = node["name"]
-        if name is None:
-            names = [it["value"] for it in node["matchers"] if it["name"] == NAME and it["type"] == "="]
-            name = names[0] if names else None
+        name = name_of(node)
         return name if name and self.is_written(name) else None
 
 

@@ -1,0 +1,41 @@
+"""Rules about metrics that the rules of a file record: P701 to P703."""
+
+from __future__ import annotations
+
+from typing import Iterator
+
+from .findings import Remark, Severity
+from .subject import Subject
+from .table import rule
+
+
+@rule("P701", "recorded-twice", Severity.ERROR)
+def recorded_twice(subject: Subject) -> Iterator[Remark]:
+    """A rule that records a series that another rule of the file records, too."""
+    first, labels = subject.context.same_query, subject.labels.of(subject.tree)
+    if first is not None:
+        is_one_series = labels.only == frozenset() == subject.context.records.labels_in(first).only
+        if is_one_series or first.split() == subject.text.split():
+            yield Remark(subject.whole, f"another rule of this file records `{subject.context.record}` with the same labels")
+
+
+@rule("P702", "recorded-in-circle", Severity.WARNING)
+def recorded_in_circle(subject: Subject) -> Iterator[Remark]:
+    """A rule that reads what is recorded from its own metric, without saying which earlier time it means."""
+    names = set(subject.context.circle)
+    for node in subject.of_type("vectorSelector") if names else ():
+        name = subject.metric(node)
+        if name in names and not node["offset"]:
+            names.remove(name)
+            message = f"`{name}` is recorded from `{subject.context.record}` itself, so this reads what an earlier evaluation left"
+            yield Remark(subject.span(node), message)
+
+
+@rule("P703", "not-recorded", Severity.WARNING)
+def not_recorded(subject: Subject) -> Iterator[Remark]:
+    """An alert on a metric that no rule of the file records, while one records another operation on the same."""
+    for node in subject.selectors if subject.context.alert else ():
+        name = subject.metric(node)
+        other = subject.context.records.like(name) if name else None
+        if other:
+            yield Remark(subject.head(node), f"no rule of this file records `{name}`, and one records `{other}`")
