@@ -22,10 +22,10 @@ type treeWalker struct {
 
 func (w *treeWalker) walk(v Visitor, node Expr) error {
 	if isMissing(node) {
-		return w.fault(missing)
+		return w.fault(missing, ErrMissingExpr)
 	}
 	if _, isAbove := w.above[node]; isAbove {
-		return w.fault(belowSelf)
+		return w.fault(belowSelf, ErrBelowItself)
 	}
 	v, err := v.Visit(node, w.path)
 	if v == nil || err != nil {
@@ -45,16 +45,16 @@ func (w *treeWalker) walk(v Visitor, node Expr) error {
 }
 
 // fault is the error of what is below the last expression of the path.
-func (w *treeWalker) fault(message string) error {
+func (w *treeWalker) fault(message string, cause error) error {
 	if len(w.path) == 0 {
-		return &NodeError{"$", message, nil, ErrNotATree}
+		return &NodeError{"$", message, nil, cause}
 	}
 	_, err := formOf(w.path[0])
 	if failed, isFault := err.(*NodeError); isFault {
 		failed.Node = w.path[len(w.path)-1]
 		return failed
 	}
-	return &NodeError{"$", message, w.path[len(w.path)-1], ErrNotATree}
+	return &NodeError{"$", message, w.path[len(w.path)-1], cause}
 }
 
 // Inspect calls the function at an expression and at those below it, in the order of Walk. An error of the function ends it, and is not
