@@ -380,11 +380,7 @@ func (e *UnaryExpr) String() string      { return lineOrError(e) }
 func (e *VectorSelector) String() string { return lineOrError(e) }
 
 func lineOrError(expr Expr) string {
-	line, err := Print(expr)
-	if err != nil {
-		return "%!(" + err.Error() + ")"
-	}
-	return line
+	return textBetween("", expr, "")
 }
 
 // ---- what has a JSON form of its own
