@@ -1,5 +1,7 @@
 package promql
 
+import "errors"
+
 // Visitor is what Walk calls at each expression of a tree. Where the visitor that it returns is not nil, and the error is, that one visits
 // the expressions below, and then nil. The path has the expressions above, the highest first; it is the walk's own and changes with it, so
 // a visitor that keeps it copies it.
@@ -71,6 +73,21 @@ func (f inspector) Visit(node Expr, path []Expr) (Visitor, error) {
 	}
 	return f, f(node, path)
 }
+
+// All returns an iterator over an expression and those below it, in the order of Walk: from Go 1.23 on, `for node := range All(expr)`, and
+// before that All(expr)(f), where f returns whether it goes on. It ends at an expression that is missing, or below itself.
+func All(expr Expr) func(yield func(Expr) bool) {
+	return func(yield func(Expr) bool) {
+		Inspect(expr, func(node Expr, _ []Expr) error {
+			if !yield(node) {
+				return errEnded
+			}
+			return nil
+		})
+	}
+}
+
+var errEnded = errors.New("the loop over an iterator ended")
 
 // Transform changes a tree in place, and returns it. The function is called with each expression, once those below it are what it returned
 // for them, and returns what takes its place; one that it returns as it is stays. It is not called where an expression is missing, or below
