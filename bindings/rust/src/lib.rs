@@ -19,6 +19,7 @@
 //! `docs/guide/bindings.md` of the repository.
 
 mod child;
+mod children;
 mod function;
 mod function_table;
 mod json;

@@ -324,23 +324,6 @@ impl Expr {
         }
     }
 
-    /// The expressions right below: the parameter of an aggregation comes before what is aggregated.
-    pub fn children(&self) -> Vec<&Expr> {
-        (0..).map_while(|number| self.child(number)).collect()
-    }
-
-    /// The same, to be changed.
-    pub fn children_mut(&mut self) -> Vec<&mut Expr> {
-        match self {
-            Expr::Aggregate(it) => it.param.iter_mut().map(|param| &mut **param).chain([&mut *it.expr]).collect(),
-            Expr::Binary(it) => vec![&mut it.lhs, &mut it.rhs],
-            Expr::Call(it) => it.args.iter_mut().collect(),
-            Expr::Paren(ParenExpr { expr }) | Expr::Unary(UnaryExpr { expr }) => vec![expr],
-            Expr::Subquery(it) => vec![&mut it.expr],
-            Expr::NumberLiteral(_) | Expr::StringLiteral(_) | Expr::VectorSelector(_) | Expr::MatrixSelector(_) => Vec::new(),
-        }
-    }
-
     /// The child of this number, in the order of [`Expr::children`].
     pub(crate) fn child(&self, number: usize) -> Option<&Expr> {
         match self {
