@@ -20,6 +20,7 @@
 
 mod child;
 mod children;
+mod conversions;
 mod function;
 mod function_table;
 mod json;
@@ -27,6 +28,7 @@ mod library;
 mod members;
 mod node_faults;
 mod own_parts;
+mod part_texts;
 mod print_tree;
 mod read_form;
 mod read_node;

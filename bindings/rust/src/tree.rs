@@ -267,30 +267,6 @@ impl NumberLiteral {
     }
 }
 
-impl From<f64> for NumberLiteral {
-    /// The number that `Display` shows of the value.
-    fn from(value: f64) -> NumberLiteral {
-        let val = match value {
-            _ if value.is_infinite() => String::from(if value > 0.0 { "Inf" } else { "-Inf" }),
-            _ if value == 0.0 => String::from("0"),
-            _ => value.to_string(),
-        };
-        NumberLiteral { val }
-    }
-}
-
-impl From<f64> for Expr {
-    fn from(value: f64) -> Expr {
-        Expr::NumberLiteral(value.into())
-    }
-}
-
-impl From<VectorSelector> for Expr {
-    fn from(selector: VectorSelector) -> Expr {
-        Expr::VectorSelector(selector)
-    }
-}
-
 impl Expr {
     /// The selector of this name.
     pub fn selector(name: &str) -> Expr {
