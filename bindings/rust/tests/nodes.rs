@@ -133,3 +133,18 @@ fn values_become_parts_of_trees() {
     };
     assert_eq!(Error::from(fault.clone()), Error::Node(fault));
 }
+
+#[test]
+fn trees_are_equal_with_and_without_places() {
+    let query = "sum by (job) (rate(a{job='é'}[5m])) / -1";
+    let placed = parse_placed(query).unwrap();
+    assert_eq!((&placed.expr, &placed.places), (&parsed(query), &places(query).unwrap()));
+    let parts: Vec<&str> = placed.walk().map(|(_, place)| &query[place]).collect();
+    assert_eq!(parts, [query, "sum by (job) (rate(a{job='é'}[5m]))", "rate(a{job='é'}[5m])", "a{job='é'}[5m]", "-1"]);
+    assert!(placed.walk().all(|(expr, place)| canonical(&query[place]).unwrap() == expr.to_string()));
+    let other = parse_placed("sum  by (job) (rate(a{job='é'}[5m])) / -1").unwrap();
+    assert_eq!(placed.expr, other.expr);
+    assert_ne!(placed, other);
+    assert_eq!(placed, placed.clone());
+    assert!(matches!(parse_placed("1 +"), Err(Error::Rejected(found)) if found.range == (3..3)));
+}
