@@ -213,6 +213,10 @@ func missingExprs() []promql.Expr {
 		nil, (*promql.AggregateExpr)(nil), (*promql.BinaryExpr)(nil), (*promql.Call)(nil), (*promql.MatrixSelector)(nil),
 		(*promql.NumberLiteral)(nil), (*promql.ParenExpr)(nil), (*promql.StringLiteral)(nil), (*promql.SubqueryExpr)(nil),
 		(*promql.UnaryExpr)(nil), (*promql.VectorSelector)(nil), struct{ promql.Expr }{selector("a")},
+		struct {
+			promql.Expr
+			cannotBeCompared []int
+		}{selector("a"), nil},
 	}
 }
 

@@ -13,4 +13,4 @@ cd "$(dirname "$0")"
 old=$(sed -n 's/^module //p' go.mod)
 cp ../../dist/libpromql.a ../../dist/promql.h .
 sed -i "s|^module .*|module $module|" go.mod
-find . -name '*.go' -exec sed -i -E "s|^(\t\|import )\"$old(/[^\"]*)?\"\$|\1\"$module\2\"|" {} +
+find . -name '*.go' -exec sed -i -E "s|^(\t\|import \|import _ )\"$old(/[^\"]*)?\"\$|\1\"$module\2\"|" {} +

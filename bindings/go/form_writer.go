@@ -73,11 +73,11 @@ func (w *formWriter) node(place *path, expr Expr) {
 		return
 	}
 	if isMissing(expr) {
-		w.fail(place, missing, nil, ErrNotATree)
+		w.fail(place, missing, nil, ErrMissingExpr)
 		return
 	}
 	if _, isAbove := w.above[expr]; isAbove {
-		w.fail(place, belowSelf, expr, ErrNotATree)
+		w.fail(place, belowSelf, expr, ErrBelowItself)
 		return
 	}
 	w.above[expr] = struct{}{}

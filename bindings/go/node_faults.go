@@ -182,28 +182,3 @@ func overStandIns(expr Expr, children []typed) Expr {
 	copied.setChildren(made)
 	return copied
 }
-
-// copyOf returns a copy of an expression with children, over the same ones.
-func copyOf(expr Expr) Expr {
-	switch node := expr.(type) {
-	case *AggregateExpr:
-		copied := *node
-		return &copied
-	case *BinaryExpr:
-		copied := *node
-		return &copied
-	case *Call:
-		copied := *node
-		return &copied
-	case *ParenExpr:
-		copied := *node
-		return &copied
-	case *SubqueryExpr:
-		copied := *node
-		return &copied
-	case *UnaryExpr:
-		copied := *node
-		return &copied
-	}
-	return expr
-}

@@ -8,12 +8,26 @@ import "C"
 import (
 	"encoding/json"
 	"errors"
+	"fmt"
 	"strings"
 )
 
+// Errors of trees, each of which is ErrNotATree, too. Compare with errors.Is.
+var (
+	// ErrMissingExpr says that there is no expression where one has to be: nil, or a nil pointer.
+	ErrMissingExpr = fmt.Errorf("%w: an expression is missing", ErrNotATree)
+	// ErrBelowItself says that an expression is below itself.
+	ErrBelowItself = fmt.Errorf("%w: an expression is below itself", ErrNotATree)
+	// ErrTooDeep says that a form has more arrays and objects within one another than are read.
+	ErrTooDeep = fmt.Errorf("%w: it is nested too deeply", ErrNotATree)
+	// ErrUnknownFunction says that no function has the name of a call. An error that is this one has the name, or its first 32 characters.
+	ErrUnknownFunction = fmt.Errorf("%w: a function is unknown", ErrNotATree)
+)
+
 // NodeError says why a tree has no text. Path is that of the part at fault in the JSON form, as $.lhs.args[0], and Node the expression
-// there, or the one that has it. It is ErrNotATree; ErrUnfaithful where the text would mean another tree, as with an argument of a wrong
-// type; ErrTooLargeTree; or ErrNotUTF8.
+// there, or the one that has it. It is ErrNotATree, and where that says why, ErrMissingExpr, ErrBelowItself, ErrTooDeep or
+// ErrUnknownFunction; ErrUnfaithful where the text would mean another tree, as with an argument of a wrong type; ErrTooLargeTree; or
+// ErrNotUTF8.
 type NodeError struct {
 	Path    string
 	Message string
@@ -118,14 +132,24 @@ func Print(expr Expr, options ...Option) (string, error) {
 	failed := &NodeError{"$", said.message, expr, said.cause}
 	switch said.cause {
 	case ErrNotATree:
-		// (the form is JSON, but may be deeper than the library reads)
-		failed.Message = tooDeep
-		if path, message, found := strings.Cut(said.message, ": "); found {
-			failed.Path, failed.Message, failed.Node = path, message, nodeAt(expr, path)
-		}
+		failed.locate()
 	case ErrUnfaithful:
 		it := firstWithoutText(expr)
 		failed.Path, failed.Node = it.place.String(), it.node
 	}
 	return "", failed
+}
+
+// locate finds the expression at fault in a tree by the message of the library, which begins with its path. One without a path is of a form
+// that is JSON, but deeper than the library reads.
+func (e *NodeError) locate() {
+	path, message, found := strings.Cut(e.Message, ": ")
+	if !found {
+		e.Message, e.cause = tooDeep, ErrTooDeep
+		return
+	}
+	e.Path, e.Message, e.Node = path, message, nodeAt(e.Node, path)
+	if call, isCall := e.Node.(*Call); isCall && strings.HasSuffix(path, ".func.name") {
+		e.Message, e.cause = fmt.Sprintf("no function is called %.32q", call.Func.Name), ErrUnknownFunction
+	}
 }

@@ -66,6 +66,8 @@ var (
 	// ErrSmallStack says that the thread has less than 1.25 MiB of stack left, and a query may need as much. Calls run on the stacks
 	// of the system's threads, which have as much as `ulimit -s` said when the process began: 8 MiB, mostly.
 	ErrSmallStack = errors.New("the thread has less than 1.25 MiB of stack left")
+	// ErrUnknownTarget says that no target has a name or a number. An error that is this one says which.
+	ErrUnknownTarget = errors.New("the target is unknown")
 	// ErrNumberTooWide says that a query has no JSON form: a number of milliseconds is below -2^63 or above 2^64 - 1.
 	ErrNumberTooWide = errors.New("number too wide for JSON")
 )
@@ -361,7 +363,7 @@ const (
 	Rules Target = C.PROMQL_RULES
 )
 
-// ParseTarget returns the target of this name: "prometheus-3" or "rules".
+// ParseTarget returns the target of this name: "prometheus-3" or "rules". The error is ErrUnknownTarget where it is another.
 func ParseTarget(name string) (Target, error) {
 	switch name {
 	case "prometheus-3":
@@ -369,7 +371,7 @@ func ParseTarget(name string) (Target, error) {
 	case "rules":
 		return Rules, nil
 	}
-	return 0, fmt.Errorf("no target is called %q: prometheus-3, rules", name)
+	return 0, explained{fmt.Sprintf("no target is called %q: prometheus-3, rules", name), ErrUnknownTarget}
 }
 
 // SetTarget sets what reads each later query that Enforce, RenameMetric, RenameLabel and FormatQuery return and Check checks, in this
@@ -377,7 +379,7 @@ func ParseTarget(name string) (Target, error) {
 // error that is it.
 func SetTarget(target Target) error {
 	if C.promql_set_target(C.uint32_t(target)) != C.PROMQL_OK {
-		return fmt.Errorf("no target has the number %d", target)
+		return explained{fmt.Sprintf("no target has the number %d", target), ErrUnknownTarget}
 	}
 	return nil
 }

@@ -380,11 +380,7 @@ func (e *UnaryExpr) String() string      { return lineOrError(e) }
 func (e *VectorSelector) String() string { return lineOrError(e) }
 
 func lineOrError(expr Expr) string {
-	line, err := Print(expr)
-	if err != nil {
-		return "%!(" + err.Error() + ")"
-	}
-	return line
+	return textBetween("", expr, "")
 }
 
 // ---- what has a JSON form of its own
@@ -470,7 +466,7 @@ func (o Offset) text() string {
 	return text
 }
 
-// MarshalJSON returns the matching's JSON form.
+// MarshalJSON returns the matching's JSON form. Its error is ErrNotATree: Include has labels that Card has no place for.
 func (m *VectorMatching) MarshalJSON() ([]byte, error) {
 	var card any = m.Card
 	switch m.Card {
@@ -481,7 +477,7 @@ func (m *VectorMatching) MarshalJSON() ([]byte, error) {
 			card = CardOneToOne
 		}
 		if len(m.Include) > 0 {
-			return nil, fmt.Errorf("labels of a grouping without group_left or group_right: %s", strings.Join(m.Include, ", "))
+			return nil, explained{"labels of a grouping without group_left or group_right: " + strings.Join(m.Include, ", "), ErrNotATree}
 		}
 	}
 	return json.Marshal(struct {

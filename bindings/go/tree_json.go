@@ -17,6 +17,17 @@ func (e *FormError) Error() string {
 	return e.Path + ": " + e.Message
 }
 
+// Unwrap returns ErrTooDeep where the text is nested too deeply, ErrNotUTF8 where it is not UTF-8, and else ErrNotATree.
+func (e *FormError) Unwrap() error {
+	switch e.Message {
+	case tooDeep:
+		return ErrTooDeep
+	case notUTF8:
+		return ErrNotUTF8
+	}
+	return ErrNotATree
+}
+
 // Parse returns the tree of a query. Lengths of time are cut off to whole milliseconds, as in the JSON form. The errors are those of JSON:
 // a query that is rejected gives a *QueryError.
 func Parse(query string) (Expr, error) {

@@ -1,5 +1,7 @@
 package promql
 
+import "errors"
+
 // Visitor is what Walk calls at each expression of a tree. Where the visitor that it returns is not nil, and the error is, that one visits
 // the expressions below, and then nil. The path has the expressions above, the highest first; it is the walk's own and changes with it, so
 // a visitor that keeps it copies it.
@@ -22,10 +24,10 @@ type treeWalker struct {
 
 func (w *treeWalker) walk(v Visitor, node Expr) error {
 	if isMissing(node) {
-		return w.fault(missing)
+		return w.fault(missing, ErrMissingExpr)
 	}
 	if _, isAbove := w.above[node]; isAbove {
-		return w.fault(belowSelf)
+		return w.fault(belowSelf, ErrBelowItself)
 	}
 	v, err := v.Visit(node, w.path)
 	if v == nil || err != nil {
@@ -45,16 +47,16 @@ func (w *treeWalker) walk(v Visitor, node Expr) error {
 }
 
 // fault is the error of what is below the last expression of the path.
-func (w *treeWalker) fault(message string) error {
+func (w *treeWalker) fault(message string, cause error) error {
 	if len(w.path) == 0 {
-		return &NodeError{"$", message, nil, ErrNotATree}
+		return &NodeError{"$", message, nil, cause}
 	}
 	_, err := formOf(w.path[0])
 	if failed, isFault := err.(*NodeError); isFault {
 		failed.Node = w.path[len(w.path)-1]
 		return failed
 	}
-	return &NodeError{"$", message, w.path[len(w.path)-1], ErrNotATree}
+	return &NodeError{"$", message, w.path[len(w.path)-1], cause}
 }
 
 // Inspect calls the function at an expression and at those below it, in the order of Walk. An error of the function ends it, and is not
@@ -71,6 +73,21 @@ func (f inspector) Visit(node Expr, path []Expr) (Visitor, error) {
 	}
 	return f, f(node, path)
 }
+
+// All returns an iterator over an expression and those below it, in the order of Walk: from Go 1.23 on, `for node := range All(expr)`, and
+// before that All(expr)(f), where f returns whether it goes on. It ends at an expression that is missing, or below itself.
+func All(expr Expr) func(yield func(Expr) bool) {
+	return func(yield func(Expr) bool) {
+		Inspect(expr, func(node Expr, _ []Expr) error {
+			if !yield(node) {
+				return errEnded
+			}
+			return nil
+		})
+	}
+}
+
+var errEnded = errors.New("the loop over an iterator ended")
 
 // Transform changes a tree in place, and returns it. The function is called with each expression, once those below it are what it returned
 // for them, and returns what takes its place; one that it returns as it is stays. It is not called where an expression is missing, or below

@@ -19,6 +19,8 @@
 //! `docs/guide/bindings.md` of the repository.
 
 mod child;
+mod children;
+mod conversions;
 mod function;
 mod function_table;
 mod json;
@@ -26,6 +28,8 @@ mod library;
 mod members;
 mod node_faults;
 mod own_parts;
+mod part_texts;
+mod placed;
 mod print_tree;
 mod read_form;
 mod read_node;
@@ -36,6 +40,7 @@ mod write_form;
 
 pub use child::{Child, Children};
 pub use function::{Function, ValueType, get_function};
+pub use placed::{PlacedExpr, parse_placed};
 pub use print_tree::{NodeError, parse, places, print, print_layout};
 pub use read_form::{FormError, MOST_HEIGHT};
 pub use tokens::{Part, PartKind, Token, TokenKind, parts, tokens};

@@ -129,23 +129,24 @@ pub fn parts(query: &str) -> Result<Vec<Vec<Part>>, Error> {
 
 /// The items of an array that the library wrote.
 fn rows<T>(text: &str, row: impl Fn(Value<'_>) -> Option<T>) -> Vec<T> {
-    let Some(read) = json::read(text) else {
-        return Vec::new();
-    };
-    match read.value() {
-        Value::Array(values) => values.filter_map(row).collect(),
+    let read = json::read(text);
+    match read.as_ref().map(|json| json.value()) {
+        Some(Value::Array(values)) => values.filter_map(row).collect(),
         _ => Vec::new(),
     }
 }
 
 /// A kind and a range, as the library writes them: `["name",0,3]`.
 fn kind_and_range<T: Copy>(value: Value<'_>, kinds: &[(&str, T)]) -> Option<(T, Range<usize>)> {
-    let Value::Array(mut values) = value else {
-        return None;
+    let mut values = match value {
+        Value::Array(values) => values,
+        _ => return None,
     };
-    let (Value::String(name), Value::Number(start), Value::Number(end)) = (values.next()?, values.next()?, values.next()?) else {
-        return None;
-    };
-    let (_, kind) = kinds.iter().find(|it| it.0 == name)?;
-    Some((*kind, start.parse().ok()?..end.parse().ok()?))
+    match (values.next()?, values.next()?, values.next()?) {
+        (Value::String(name), Value::Number(start), Value::Number(end)) => {
+            let (_, kind) = kinds.iter().find(|it| it.0 == name)?;
+            Some((*kind, start.parse().ok()?..end.parse().ok()?))
+        }
+        _ => None,
+    }
 }

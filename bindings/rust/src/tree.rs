@@ -267,30 +267,6 @@ impl NumberLiteral {
     }
 }
 
-impl From<f64> for NumberLiteral {
-    /// The number that `Display` shows of the value.
-    fn from(value: f64) -> NumberLiteral {
-        let val = match value {
-            _ if value.is_infinite() => String::from(if value > 0.0 { "Inf" } else { "-Inf" }),
-            _ if value == 0.0 => String::from("0"),
-            _ => value.to_string(),
-        };
-        NumberLiteral { val }
-    }
-}
-
-impl From<f64> for Expr {
-    fn from(value: f64) -> Expr {
-        Expr::NumberLiteral(value.into())
-    }
-}
-
-impl From<VectorSelector> for Expr {
-    fn from(selector: VectorSelector) -> Expr {
-        Expr::VectorSelector(selector)
-    }
-}
-
 impl Expr {
     /// The selector of this name.
     pub fn selector(name: &str) -> Expr {
@@ -321,23 +297,6 @@ impl Expr {
         match self {
             Expr::VectorSelector(selector) | Expr::MatrixSelector(MatrixSelector { vs: selector, .. }) => Some(selector),
             _ => None,
-        }
-    }
-
-    /// The expressions right below: the parameter of an aggregation comes before what is aggregated.
-    pub fn children(&self) -> Vec<&Expr> {
-        (0..).map_while(|number| self.child(number)).collect()
-    }
-
-    /// The same, to be changed.
-    pub fn children_mut(&mut self) -> Vec<&mut Expr> {
-        match self {
-            Expr::Aggregate(it) => it.param.iter_mut().map(|param| &mut **param).chain([&mut *it.expr]).collect(),
-            Expr::Binary(it) => vec![&mut it.lhs, &mut it.rhs],
-            Expr::Call(it) => it.args.iter_mut().collect(),
-            Expr::Paren(ParenExpr { expr }) | Expr::Unary(UnaryExpr { expr }) => vec![expr],
-            Expr::Subquery(it) => vec![&mut it.expr],
-            Expr::NumberLiteral(_) | Expr::StringLiteral(_) | Expr::VectorSelector(_) | Expr::MatrixSelector(_) => Vec::new(),
         }
     }
 

@@ -97,9 +97,8 @@ fn write_end(out: &mut String, expr: &Expr) {
     match expr {
         Expr::MatrixSelector(it) => {
             let mode = match it.mode {
-                RangeMode::Plain => "",
-                RangeMode::Smoothed => ",\"rangeMode\":\"smoothed\"",
-                RangeMode::Anchored => ",\"rangeMode\":\"anchored\"",
+                RangeMode::Plain => String::new(),
+                word => format!(",\"rangeMode\":\"{word}\""),
             };
             write_selector(out, &it.vs, &format!(",\"range\":{}{mode}", it.range));
             out.push_str(",\"type\":\"matrixSelector\"}");
@@ -197,13 +196,7 @@ fn write_selector(out: &mut String, it: &VectorSelector, range: &str) {
 
 fn write_matcher(out: &mut String, it: &Matcher) {
     write_string(named(out, "{\"name\":"), &it.name);
-    let op = match it.op {
-        MatchOp::Equal => "=",
-        MatchOp::NotEqual => "!=",
-        MatchOp::Re => "=~",
-        MatchOp::NotRe => "!~",
-    };
-    write_string(named(out, &format!(",\"type\":\"{op}\",\"value\":")), &it.value);
+    write_string(named(out, &format!(",\"type\":\"{}\",\"value\":", it.op)), &it.value);
     out.push('}');
 }
 

@@ -132,6 +132,19 @@ fn parts_of_a_high_tree_are_dropped_with_little_stack() {
     });
 }
 
+/// The text of the struct of an expression that has others below it.
+fn text_of_node(tree: &Expr) -> String {
+    match tree {
+        Expr::Aggregate(it) => it.to_string(),
+        Expr::Binary(it) => it.to_string(),
+        Expr::Call(it) => it.to_string(),
+        Expr::Paren(it) => it.to_string(),
+        Expr::Subquery(it) => it.to_string(),
+        Expr::Unary(it) => it.to_string(),
+        leaf => panic!("{leaf} has nothing below it"),
+    }
+}
+
 #[test]
 fn what_is_done_with_a_high_tree_needs_little_stack() {
     for mut tree in high_trees(20_000) {
@@ -144,6 +157,7 @@ fn what_is_done_with_a_high_tree_needs_little_stack() {
             assert_eq!((walk_expr(&mut seen, &tree), walk_expr_mut(&mut changed, &mut tree)), (Ok(true), Ok(true)));
             assert_eq!((seen.0, changed.0), (tree.walk().count(), tree.walk().count()));
             assert_eq!(Expr::from_json(&tree.to_json()).unwrap_err().message, TOO_HIGH);
+            assert!(text_of_node(&tree).starts_with('<'));
             copy = copy.transform(&mut |it| match it {
                 Expr::VectorSelector(_) => Expr::selector("b"),
                 other => other,
