@@ -30,8 +30,9 @@ fn calls(mut bytes: &[u8]) -> Vec<Call<'_>> {
     while let Some(end) = bytes.iter().position(|byte| *byte == b'\n') {
         let numbers = str::from_utf8(&bytes[..end]).expect("a line of numbers");
         let numbers: Vec<usize> = numbers.split(' ').map(|word| word.parse().expect("a number")).collect();
-        let [call, mode, level, width, _, matcher_length, length] = numbers[..] else {
-            panic!("a line has {} numbers", numbers.len());
+        let (call, mode, level, width, matcher_length, length) = match numbers[..] {
+            [call, mode, level, width, _, matcher_length, length] => (call, mode, level, width, matcher_length, length),
+            _ => panic!("a line has {} numbers", numbers.len()),
         };
         let (text, rest) = bytes[end + 1..].split_at(length);
         let (query, matcher) = text.split_at(length - matcher_length);
@@ -43,8 +44,9 @@ fn calls(mut bytes: &[u8]) -> Vec<Call<'_>> {
 
 /// What a call gives, as `rows.py` reads it.
 fn answer(call: &Call<'_>) -> Vec<u8> {
-    let Ok(query) = str::from_utf8(call.query) else {
-        return line(3, [0; 4], "input is not UTF-8");
+    let query = match str::from_utf8(call.query) {
+        Ok(query) => query,
+        Err(_) => return line(3, [0; 4], "input is not UTF-8"),
     };
     if call.call == 7 {
         return explanation(query);
