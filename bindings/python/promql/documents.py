@@ -9,6 +9,7 @@ from typing import Iterable, List, Mapping, NamedTuple, Optional, Protocol, Tupl
 from ._answers import Status as Answered
 from .checked_queries import FileBounds, QueryChecker
 from .dashboards import Dashboard, may_have_queries
+from .exact_yaml import NoReaderError
 from .files import BoundError, Fault, FileError, Source, nested_too_deeply, read_source
 from .queries import Query, SameQuery
 from .rule_files import RuleFile
@@ -124,7 +125,12 @@ def _read(
         board = Dashboard(source, variables, checker)
         if not board.queries and board.unread and not is_dashboard:
             # (JSON is YAML, too, and some write their rules so)
-            file = RuleFile(source, checker)
+            try:
+                file = RuleFile(source, checker)
+            except NoReaderError:
+                if "rules" in source.text:
+                    raise
+                return board
             return file if file.queries else board
         return board
     except BoundError:

@@ -84,10 +84,14 @@ class _Converter:
         return node
 
 
+class NoReaderError(FileError):
+    """There is no ruamel.yaml."""
+
+
 def look_for_reader() -> None:
     """Says so where there is no ruamel.yaml."""
     if not importlib.util.find_spec("ruamel") or not importlib.util.find_spec("ruamel.yaml"):
-        raise FileError("rule files need ruamel.yaml: install python3-ruamel.yaml, or `pip install ruamel.yaml`")
+        raise NoReaderError("rule files need ruamel.yaml: install python3-ruamel.yaml, or `pip install ruamel.yaml`")
 
 
 def _compose(source: Source, text: ExactYaml) -> List[Any]:
