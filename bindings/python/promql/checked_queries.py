@@ -10,7 +10,6 @@ import promql
 
 from .files import Fault
 from .queries import Query
-from .token_texts import pattern_operators
 
 # The most bytes of queries of a file for which that is said.
 _MOST_EXPLAINED = 65_536
@@ -62,7 +61,7 @@ def limited_to(**limits: int) -> Iterator[None]:
 def pattern_size(query: str) -> int:
     """What the patterns of a query measure together, which the library tells without compiling one; 0 where it has none, or is too
     long."""
-    if not pattern_operators(query):
+    if "~" not in query:
         return 0
     with limited_to(max_patterns=0):
         try:
