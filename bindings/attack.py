@@ -461,6 +461,10 @@ def attack_files():
         check("nothing is left beside the files", not list(Path(folder).glob(".promql-*")), os.listdir(folder))
 
 
+# With what a command ends that told of a file what it is to tell (docs/guide/rule-files.md, "Exit statuses").
+FILE_STATUSES = (0, 1, 2, 3, 4, 14, 19, 23, 66)
+
+
 def attack_by_large_files(part):
     """Files of 1 MiB of one construct, and of as much of it as is looked at: every fourth of them, each by one of the commands in turn."""
     if run([sys.executable, "-c", "import ruamel.yaml, yaml; yaml.CSafeLoader"]).status:
@@ -475,7 +479,7 @@ def attack_by_large_files(part):
             path = Path(folder, name.replace("/", " "))
             path.write_text(text, encoding="utf-8", newline="")
             ran = run([sys.executable, "-m", "promql", *command, path])
-            is_so = ran.status in range(4) and "Traceback" not in ran.err and "Error:" not in ran.err
+            is_so = ran.status in FILE_STATUSES and "Traceback" not in ran.err and "Error:" not in ran.err
             check(f"{' '.join(command)} {name}", is_so, (ran.status, ran.err[:300]))
             path.unlink()
 

@@ -86,8 +86,9 @@ test_schema() {
 
 # ---- the wheel
 
-# The package as pip installs it, in a folder of its own.
+# The package as pip installs it, in a folder of its own, which another user finds, too.
 install_wheel() {
+    chmod 711 "$work"
     "$python" -m pip wheel --quiet --no-build-isolation --no-deps --no-index --wheel-dir "$work/wheels" "$here/python" &&
         "$python" -m pip install --quiet --no-deps --no-index --target "$work/site" "$work"/wheels/promql-*.whl
 }
