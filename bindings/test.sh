@@ -400,7 +400,7 @@ test_scripts() {
 # ---- Rust
 
 in_cargo() {
-    CARGO_TARGET_DIR=$work/target cargo "$@" --offline --quiet --manifest-path "$here/rust/Cargo.toml"
+    CARGO_TARGET_DIR=$work/target cargo "$1" --offline --quiet --manifest-path "$here/rust/Cargo.toml" "${@:2}"
 }
 
 # print_cargo_counts SAID: prints how many tests passed and failed by what cargo said, and fails where none passed.
