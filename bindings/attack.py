@@ -174,7 +174,8 @@ def knows_limits():
     return "--max-patterns" in run([PROMQL, "check", "--help"]).out
 
 
-# Those that all subcommands but `line`, `pretty` and `json` reject before they read them.
+WITH_LIMITS = ("enforce", "check", "batch")
+# Those that these subcommands reject before they read them.
 OVER_LIMITS = {
     "16,000 groups": TOO_LARGE,
     "16,000 classes": TOO_LARGE,
@@ -192,7 +193,7 @@ OVER_LIMITS = {
 def attack_by_queries():
     for name, (query, status, message) in QUERIES.items():
         for program, ran in program_runs(query):
-            if name in OVER_LIMITS and program in ("enforce", "check", "batch"):
+            if name in OVER_LIMITS and program in WITH_LIMITS:
                 is_so = ran.status == 14 and OVER_LIMITS[name] in ran.err
             else:
                 said = TOO_MANY_LEVELS if message == TOO_DEEP and program != "batch" else message
@@ -226,7 +227,7 @@ def attack_by_patterns():
     allowed = SECONDS + 2 * MANY * sum(one) / len(one)
     for name, (query, said) in LARGE_PATTERNS.items():
         for program, ran in program_runs(query, seconds=math.ceil(allowed), memory=128):
-            if program.startswith("promql_"):
+            if program in WITH_LIMITS:
                 is_so = ran.status == 14 and said in ran.err and ran.seconds < SECONDS
             else:
                 is_so = ran.status == 0 and ran.seconds < allowed

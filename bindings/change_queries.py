@@ -4,8 +4,8 @@ they print.
 
 usage: bindings/change_queries.py PROGRAM..   with dist/promql. The last line is 'N passed, M failed'
 
-Queries that call `info` or have a matcher of `__name__` are left out: the one for C puts the matcher in by `promql_enforce`, and lists what
-`promql_collect` does.
+Queries that call `info`, have a matcher of `__name__` or are read otherwise by a Prometheus are left out: the one for C puts the matcher in
+by `promql_enforce`, and lists what `promql_collect` does.
 """
 
 import json
@@ -18,6 +18,7 @@ from checks import print_counts
 
 WORDS = ("tenant", "team-a", "foo", "foo_total", "job")
 NO = "not changed"
+READ_OTHERWISE = 23
 # Queries with what each program prints of them.
 CHANGED = (
     ("rate(foo[5m]) / bar", 'bar foo: sum by (job) (rate(foo_total{tenant="team-a"}[5m]) / bar{tenant="team-a"})'),
@@ -29,7 +30,7 @@ CHANGED = (
 
 
 def answers(mode, queries):
-    """What promql batch answers to each query in a mode."""
+    """What promql batch answers to each query, or other request, in a mode."""
     asked = "".join(json.dumps(query) + "\n" for query in queries)
     command = [rows.ROOT / "dist" / "promql", "batch", mode, "--max-len", str(rows.MAX_LEN)]
     ran = subprocess.run(command, input=asked.encode(), stdout=subprocess.PIPE, timeout=60)
@@ -39,9 +40,10 @@ def answers(mode, queries):
 def queries():
     """The queries of the rows that each program reads, with room for a matcher within the limits of a query."""
     found = [it for it in trees.accepted_queries() if not any(sign in it for sign in "\n\r\0") and len(it.encode()) < 30_000]
-    for query, answer in zip(found, answers("json", found)):
+    enforced = answers("line", [{"query": query, "enforce": 'tenant="team-a"'} for query in found])
+    for query, answer, other in zip(found, answers("json", found), enforced):
         form = json.dumps(answer.get("ok"))
-        if '"__name__"' not in form and '"info"' not in form:
+        if '"__name__"' not in form and '"info"' not in form and other.get("code") != READ_OTHERWISE:
             yield query
 
 

@@ -24,7 +24,7 @@ LAID_OUT = (
     '  sum by (job) (rate(requests_total{job="api"}[5m]))\n'
 )
 REJECTED = "sum(\n"
-MESSAGE = "unclosed left parenthesis\n"
+MESSAGE = "1:5: unclosed left parenthesis\nsum(\n    ^\n"
 
 checks = Checks()
 
