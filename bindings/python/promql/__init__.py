@@ -90,8 +90,8 @@ TARGETS = {"prometheus-3": Target.PROMETHEUS_3, "rules": Target.RULES}
 
 
 class Error(ValueError):
-    """Why a function returns nothing for a query. `number` is the error's in all programs (docs/reference/programs.md, "Numbers of errors"),
-    or 0 where it is not from a call of the library."""
+    """Why a function returns nothing for a query. `number` is the error's in all programs, or 0 where it is not from a call of the library
+    (docs/reference/programs.md, "Numbers of errors")."""
 
     number = 0
 
@@ -226,9 +226,9 @@ def set_limits(
     """Sets what each later query has to be within, in this process: at most so many bytes, and patterns of at most this size together
     (docs/reference/programs.md, "Limits of a query"). A query that is not raises TooLargeError before it is parsed. A matcher that is
     enforced, and the query with it, have the same limits: where they are not within them, `enforce` raises LargeEnforcedError.
-    `canonical`, `format`, `pretty` and `parse` raise LongOutputError where the text that they make has more than `max_output` bytes. `print_tree`
-    raises TooLargeTreeError where the JSON text of the tree has more than `max_tree` bytes, or its patterns are larger than those of a query
-    may be, before anything of it is compiled."""
+    `canonical`, `format`, `pretty` and `parse` raise LongOutputError where the text that they make has more than `max_output` bytes.
+    `print_tree` raises TooLargeTreeError where the JSON text of the tree has more than `max_tree` bytes, or its patterns are larger than
+    those of a query may be, before anything of it is compiled."""
     wanted = {"max_len": max_len, "max_patterns": max_patterns, "max_output": max_output, "max_tree": max_tree}
     numbers = {name: _number(name, limit, _MAX_LIMIT) for name, limit in wanted.items()}
     _caller.set_limits(*numbers.values())
@@ -301,9 +301,9 @@ def format(query: str, *, width: int = 100, indent: int = 2, keep_spelling: bool
     """The query, laid out for people (docs/reference/formatting.md): comments stay, chains of operators are flat, and a line has at most
     `width` characters, its indentation counted, where it can be broken. An indentation has `indent` spaces. They are at most 65,535 and 16.
 
-    With `keep_spelling` numbers, durations, strings and the order of what is written stay, too, and else with `sort_matchers` the matchers of a
-    selector are sorted. What is returned was read again: it has the
-    query's tree and comments. Raises UnfaithfulError where it has not; there is no query for which this was seen.
+    With `keep_spelling` numbers, durations, strings and the order of what is written stay, too, and else with `sort_matchers` the matchers
+    of a selector are sorted. What is returned was read again: it has the query's tree and comments. Raises UnfaithfulError where it has not;
+    there is no query for which this was seen.
     """
     size, spaces = _number("width", width, MAX_LINE), _number("indent", indent, _MAX_INDENT)
     return _text(query, _caller.format_query(query, size, spaces, 1 if keep_spelling else 2 * bool(sort_matchers)))

@@ -54,7 +54,8 @@ class FileFinding(NamedTuple):
     start: int
     end: int
     finding: Finding
-    # The changed query, where there is a fix and these are not too long together, and the edits of the file that make it, where it spells the query plainly.
+    # The changed query, where there is a fix and these are not too long together, and the edits of the file that make it, where it spells
+    # the query plainly.
     fixed_query: Optional[str]
     edits: Tuple[Edit, ...]
 
