@@ -34,7 +34,7 @@ pub enum ParseError {
     /// The tokens are no expression.
     #[error("invalid promql query")]
     Syntax,
-    /// The tokens are more than `MAX_DEPTH`, their end counted, and no low enough expression.
+    /// The tokens are no expression of at most `MAX_DEPTH` levels, and they are more than that, counting the end as one.
     #[error("expression nested too deeply")]
     TooDeep,
     /// A number has no value that can be held. This fault and those after it come only where the
