@@ -3,7 +3,7 @@
 ghost use Rattle.std.specs.Prelude.{◌≡◌};
 ghost use Rattle.promql_c.specs.CallLimits.{limits_of};
 
-use promql_span::Target;
+use promql_span::{Printed, Target};
 use promql_span::limits::Limits;
 
 /// `Limits` as C passes them, with the number of their target.
@@ -16,12 +16,12 @@ pub struct CallLimits {
     pub max_pattern_size: usize,
     /// The most bytes of what is made of it.
     pub max_output: usize,
-    /// The number of the target: 0 for a Prometheus, 1 for the rules.
+    /// The number of the target: 0 for Prometheus 3, 1 for the rules, 2 for Prometheus 2.42.
     pub target: u32,
 }
 
 impl CallLimits {
-    /// The limits; a number that no target has stands for a Prometheus.
+    /// The limits; a number that no target has stands for Prometheus 3.
     pub fn limits(&self) -> Limits
         ensures { result ≡ limits_of self.now }
     {
@@ -29,7 +29,8 @@ impl CallLimits {
             max_len: self.max_len,
             max_pattern_size: self.max_pattern_size,
             max_output: self.max_output,
-            target: Target::from_number(self.target).unwrap_or(Target::Prometheus),
+            target: Target::from_number(self.target).unwrap_or(Target::Prometheus3),
+            printed: Printed::Tree,
         }
     }
 }

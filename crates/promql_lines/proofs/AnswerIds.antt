@@ -1,6 +1,7 @@
 -- The answer to a line, with its id.
 use Rattle.std.proofs.Common.{◌≡◌, ◌++◌, ◌∙◌, None, Some, ap, codes, inl, inr, refl, subst, sym, true, false}
 use Rattle.std.specs.Prelude.{ℕ, Bool, Option, option_and_then, option_map}
+use Rattle.std.specs.Option.{option_map_or}
 use Rattle.std.specs.Str.{IsUtf8}
 use Rattle.serde_json.specs.Data.{Data, string}
 use Rattle.serde_json.specs.Find.{get}
@@ -10,9 +11,10 @@ use Rattle.promql_text.specs.Texts.{Text}
 use Rattle.promql_lines.specs.Batch.{HasId, IsIdOf, IsLineAnswer, IsPlainAnswer, error_value, value_text}
 use Rattle.promql_lines.specs.BatchSteps.{FailsWith}
 use Rattle.promql_lines.specs.QueryErrors.{query_error_number, rejected_in}
-use Rattle.promql_lines.specs.Requests.{matcher_in, mode_in, query_in, unknown_in}
+use Rattle.promql_lines.specs.Requests.{matcher_in, mode_in, query_in, unknown_in, value_fault}
 use Rattle.promql_lines.specs.declared.query_error.QueryError.TheVariants.{NotARequest}
 use Rattle.promql_lines.specs.declared.rejected_query.RejectedQuery.{RejectedQuery}
+use Rattle.promql_lines.specs.declared.request_fault.RequestFault.TheVariants.{NotJson}
 use Rattle.promql_lines.specs.declared.settings.Settings.{Settings}
 
 -- an answer is an object
@@ -52,9 +54,10 @@ pub none_in_bytes : (line : Text) → ¬ IsUtf8 line → IsIdOf line None
 none_in_bytes line not_utf8 = inr (not_utf8, refl)
 
 -- what is no JSON is no request
-pub unread_fails : (settings : Settings) (line : Text) → IsUtf8 line → read line ≡ None → FailsWith settings line NotARequest
+pub unread_fails : (settings : Settings) (line : Text) → IsUtf8 line → read line ≡ None → FailsWith settings line (NotARequest NotJson)
 unread_fails settings line utf8 is = inl (
   utf8,
   ap (option_and_then (λ d. option_and_then (λ query. option_map (λ m. (query, matcher_in d, m)) (mode_in settings.format d)) (query_in d))) is,
   ap (option_and_then unknown_in) is,
+  sym (ap (λ d. option_map_or (value_fault settings.format) d NotJson) is),
 )

@@ -14,7 +14,7 @@ numbers_are_own error.Memory = refl
 numbers_are_own error.NotUtf8 = refl
 numbers_are_own (error.Rejected r) = ⊎_elim (λ is. ap is_own is) (⊎_elim (λ is. ap is_own is) (λ is. ap is_own is)) (rejected_status r.rejection.reason)
 numbers_are_own (error.NoForm e) = refl
-numbers_are_own error.NotARequest = refl
+numbers_are_own (error.NotARequest fault) = refl
 numbers_are_own (error.UnknownMember name) = refl
 numbers_are_own error.UnknownMode = refl
 numbers_are_own (error.WideLayout wide) = refl
@@ -46,7 +46,7 @@ three_is_not_utf8 (error.Rejected r) three =
     (rejected_status r.rejection.reason)
 three_is_not_utf8 error.Memory three = cc
 three_is_not_utf8 (error.NoForm e) three = cc
-three_is_not_utf8 error.NotARequest three = cc
+three_is_not_utf8 (error.NotARequest fault) three = cc
 three_is_not_utf8 (error.UnknownMember name) three = cc
 three_is_not_utf8 error.UnknownMode three = cc
 three_is_not_utf8 (error.WideLayout wide) three = cc

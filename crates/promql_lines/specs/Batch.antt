@@ -29,7 +29,7 @@ use Rattle.promql_run.specs.declared.format.Format.TheVariants.{Json}
 use Rattle.promql_lines.specs.declared.rejected_query.Expectation.{Expectation}
 use Rattle.promql_lines.specs.declared.rejected_query.RejectedQuery.{RejectedQuery}
 use Rattle.promql_lines.specs.declared.settings.Settings.{Settings}
-use Rattle.promql_lines.specs.Requests.{id_in, requested, unknown_member}
+use Rattle.promql_lines.specs.Requests.{id_in, request_fault, requested, unknown_member}
 use Rattle.promql_lines.specs.Telling.{IsToldWith}
 
 -- ---- one line
@@ -44,7 +44,8 @@ value_text m output = compact_text (string output)
 abbrev pub Asks : Format → Text → Result (Text × Option Text × Mode) QueryError → Type 0
 Asks format line (Ok asked) = IsUtf8 line × (requested format line ≡ Some asked)
 Asks format line (Err error.NotUtf8) = ¬ IsUtf8 line
-Asks format line (Err error.NotARequest) = IsUtf8 line × (requested format line ≡ None) × (unknown_member line ≡ None)
+Asks format line (Err (error.NotARequest fault)) =
+    IsUtf8 line × (requested format line ≡ None) × (unknown_member line ≡ None) × (fault ≡ request_fault format line)
 Asks format line (Err (error.UnknownMember name)) = IsUtf8 line × (unknown_member line ≡ Some (string_bytes name))
 Asks format line (Err e) = e ≡ error.Memory
 

@@ -21,7 +21,7 @@ HasNoLayout options e =
 
 -- a layout that keeps what is written is read as the query is
 abbrev pub layout_limits : FormatOptions → Limits → Limits
-layout_limits options limits = if options.keep_spelling then for_rules limits else for_layout limits
+layout_limits options limits = if options.keep_spelling then for_rules limits else for_layout options.sort_matchers limits
 
 -- a layout of the query, which has its tree and its comments; or why there is none
 abbrev pub IsFormattedQuery : Limits → FormatOptions → Text → Result Text QueryError → Type 0

@@ -8,6 +8,8 @@ use Rattle.serde_json.specs.Find.{as_bool, as_number, as_str, as_u64, get}
 use Rattle.promql_text.specs.Texts.{Text}
 use Rattle.promql_lines.specs.declared.mode.Mode.{Mode}
 use Rattle.promql_lines.specs.declared.mode.Mode.TheVariants as mode
+use Rattle.promql_lines.specs.declared.request_fault.RequestFault.{RequestFault}
+use Rattle.promql_lines.specs.declared.request_fault.RequestFault.TheVariants as fault
 use Rattle.promql_run.specs.declared.format.Format.{Format}
 use Rattle.promql_run.specs.declared.format.Format.TheVariants as format
 use Rattle.promql_run.specs.Running.{format_named}
@@ -51,10 +53,14 @@ format_with level width (format.Pretty layout) =
 format_with None None other = Some other
 format_with level width other = None
 
+-- the matcher to enforce is a text, if there is one
+abbrev pub has_matcher_text : Data → Bool
+has_matcher_text d = option_map_or (λ matcher. is_some (as_str matcher)) (get (codes "enforce") d) true
+
 -- how the query is printed, where the command asks for this format
 abbrev pub format_in : Format → Data → Option Format
 format_in asked d =
-    if is_none (unknown_in d) && option_map_or (λ matcher. is_some (as_str matcher)) (get (codes "enforce") d) true
+    if is_none (unknown_in d) && has_matcher_text d
     then option_and_then (format_with (get (codes "level") d) (get (codes "width") d)) (named_in asked (get (codes "mode") d))
     else None
 
@@ -64,13 +70,41 @@ mode_with (Some false) matcher format = Some (mode.Plain format)
 mode_with (Some true) None format.Json = Some mode.Placed
 mode_with places matcher format = None
 
+-- whether places are asked for
+abbrev pub places_in : Data → Option Bool
+places_in d = option_map_or as_bool (get (codes "places") d) (Some false)
+
 abbrev pub mode_in : Format → Data → Option Mode
-mode_in asked d = option_and_then (mode_with (option_map_or as_bool (get (codes "places") d) (Some false)) (matcher_in d)) (format_in asked d)
+mode_in asked d = option_and_then (mode_with (places_in d) (matcher_in d)) (format_in asked d)
 
 -- what a line asks for: a query, a matcher to enforce if there is one, and a mode
 abbrev pub requested : Format → Text → Option (Text × Option Text × Mode)
 requested asked line =
     option_and_then (λ d. option_and_then (λ query. option_map (λ m. (query, matcher_in d, m)) (mode_in asked d)) (query_in d)) (read line)
+
+-- ---- what is wrong with a line that asks for nothing, the first of these
+
+abbrev pub layout_fault : Option Data → Format → RequestFault
+layout_fault level (format.Pretty layout) = if is_none (number_in layout.level 512 level) then fault.Level else fault.Width
+layout_fault level other = fault.NoLayout
+
+abbrev pub places_fault : Data → RequestFault
+places_fault d = if is_none (places_in d) then fault.Places else fault.NoPlaces
+
+-- the format is told, or its level and its width are at fault
+abbrev pub format_fault : Data → Format → RequestFault
+format_fault d named =
+    let level = get (codes "level") d in
+    if is_none (format_with level (get (codes "width") d) named) then layout_fault level named else places_fault d
+
+abbrev pub member_fault : Format → Data → RequestFault
+member_fault asked d = if has_matcher_text d then option_map_or (format_fault d) (named_in asked (get (codes "mode") d)) fault.Mode else fault.Enforce
+
+abbrev pub value_fault : Format → Data → RequestFault
+value_fault asked d = if is_none (query_in d) then fault.NoQuery else member_fault asked d
+
+abbrev pub request_fault : Format → Text → RequestFault
+request_fault asked line = option_map_or (value_fault asked) (read line) fault.NotJson
 
 -- the first member of a line that no request has, if there is one
 abbrev pub unknown_member : Text → Option Text

@@ -14,14 +14,14 @@ use promql_formatter::{FormatError, FormatOptions, format_tree};
 use promql_span::limits::Limits;
 use std::alloc::Global;
 
-/// The limits of a query to lay out: a layout that keeps what is written is read as the query is.
+/// The limits of a query to lay out: a layout that keeps what is written is read as the query is. Another one may sort matchers.
 fn layout_limits(options: &FormatOptions, limits: &Limits) -> Limits
     ensures { result ≡ layout_limits options.now limits.now }
 {
     if options.keep_spelling {
         limits.for_rules()
     } else {
-        limits.for_layout()
+        limits.for_layout(options.sort_matchers)
     }
 }
 

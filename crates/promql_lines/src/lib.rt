@@ -19,6 +19,7 @@ pub mod read_form;
 pub mod rejected_query;
 pub mod renamed_line;
 pub mod request;
+pub mod request_fault;
 mod request_id;
 pub mod settings;
 pub mod tree_text;

@@ -30,6 +30,7 @@ use crate::query_error::QueryError;
 use crate::quoted_query::quoted_query;
 use crate::rejected_query::RejectedQuery;
 use crate::request::{matcher_in, mode_in, query_in, unknown_in};
+use crate::request_fault::{RequestFault, fault_in};
 use crate::request_id::answer_with_id;
 use crate::settings::Settings;
 use promql_ast::{Expr, drop_expr};
@@ -260,10 +261,10 @@ fn answer_value(alloc: Global, settings: &Settings, asked: &Value) -> Result<Str
         return Err(unknown_member(alloc, name));
     }
     let Some(query) = query_in(asked) else {
-        return Err(QueryError::NotARequest);
+        return Err(QueryError::NotARequest(fault_in(settings.format, asked)));
     };
     let Some(mode) = mode_in(settings.format, asked) else {
-        return Err(QueryError::NotARequest);
+        return Err(QueryError::NotARequest(fault_in(settings.format, asked)));
     };
     answer_query(alloc, &settings.limits, mode, query, matcher_in(asked))
 }
@@ -337,7 +338,7 @@ fn answer_json(alloc: Global, settings: &Settings, line: &str) -> Result<LineAns
             drop(asked);
             answer
         }
-        None => plain_answer(alloc, Err(QueryError::NotARequest)),
+        None => plain_answer(alloc, Err(QueryError::NotARequest(RequestFault::NotJson))),
     }
 }
 

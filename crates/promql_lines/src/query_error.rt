@@ -8,6 +8,7 @@ ghost use Rattle.promql_span.specs.declared.limits.Limits as spans;
 
 use crate::read_form::LargeForm;
 use crate::rejected_query::RejectedQuery;
+use crate::request_fault::RequestFault;
 use promql_formatter::options::WideOption;
 use promql_from_json::FromJsonError;
 use promql_json::JsonError;
@@ -50,8 +51,8 @@ pub enum QueryError {
     #[error("{0}")]
     NoForm(JsonError),
     /// The line is not a JSON string, nor an object that asks for a query.
-    #[error("line is not a request")]
-    NotARequest,
+    #[error("line is not a request: {0}")]
+    NotARequest(RequestFault),
     /// The line is an object with a member of this name, which no request has.
     #[error("line is not a request: it has no member {0:?}")]
     UnknownMember(String),
@@ -129,7 +130,7 @@ impl QueryError {
             QueryError::NotUtf8 => 3,
             QueryError::Rejected(query) => query.rejection.reason.number(),
             QueryError::NoForm(_) => 6,
-            QueryError::NotARequest | QueryError::UnknownMember(_) => 7,
+            QueryError::NotARequest(_) | QueryError::UnknownMember(_) => 7,
             QueryError::UnknownMode | QueryError::WideLayout(_) => 9,
             QueryError::Matcher(_) => 11,
             QueryError::Unfaithful(_) | QueryError::NotPrintable(_) | QueryError::NotFormatted => {
@@ -157,7 +158,7 @@ impl QueryError {
             QueryError::Memory
             | QueryError::NotUtf8
             | QueryError::NoForm(_)
-            | QueryError::NotARequest
+            | QueryError::NotARequest(_)
             | QueryError::UnknownMember(_)
             | QueryError::UnknownMode
             | QueryError::WideLayout(_)

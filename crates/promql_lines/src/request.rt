@@ -13,7 +13,7 @@ use promql_run::format::{Format, Layout};
 use serde_json::{Map, Value};
 
 /// The highest level of a layout.
-const MAX_LEVEL: u64 = 512;
+pub(crate) const MAX_LEVEL: u64 = 512;
 
 /// The query that a line asks about; `None` where its value has none.
 pub fn query_in(value: &Value) -> Option<&str>
@@ -33,7 +33,7 @@ pub fn matcher_in(value: &Value) -> Option<&str>
 }
 
 /// Whether a line asks for places; `None` where its value does not tell.
-fn places_in(value: &Value) -> Option<bool>
+pub(crate) fn places_in(value: &Value) -> Option<bool>
     ensures { result ≡ option_map_or as_bool (get (codes "places") (view value.now)) (Some false) }
 {
     match value.get("places") {
@@ -43,7 +43,7 @@ fn places_in(value: &Value) -> Option<bool>
 }
 
 /// Whether a member is a text, if it is there.
-fn is_text(member: Option<&Value>) -> bool
+pub(crate) fn is_text(member: Option<&Value>) -> bool
     ensures { result ≡ option_map_or (λ v. is_some (as_str v)) (option_map (λ v. view v.now) member.entry) true }
 {
     match member {
@@ -53,7 +53,7 @@ fn is_text(member: Option<&Value>) -> bool
 }
 
 /// The format of the member's mode, or the command's.
-fn named_in(asked: Format, member: Option<&Value>) -> Option<Format>
+pub(crate) fn named_in(asked: Format, member: Option<&Value>) -> Option<Format>
     ensures { result ≡ spec.named_in asked (option_map (λ v. view v.now) member.entry) }
 {
     match member {
@@ -63,7 +63,7 @@ fn named_in(asked: Format, member: Option<&Value>) -> Option<Format>
 }
 
 /// A whole number of at most `most`, or the default.
-fn number_in(default: u64, most: u64, member: Option<&Value>) -> Option<u64>
+pub(crate) fn number_in(default: u64, most: u64, member: Option<&Value>) -> Option<u64>
     ensures { result ≡ spec.number_in default most (option_map (λ v. view v.now) member.entry) }
 {
     match member {
@@ -73,7 +73,7 @@ fn number_in(default: u64, most: u64, member: Option<&Value>) -> Option<u64>
 }
 
 /// The format with this level and this width. Only a layout has them.
-fn format_with(level: Option<&Value>, width: Option<&Value>, format: Format) -> Option<Format>
+pub(crate) fn format_with(level: Option<&Value>, width: Option<&Value>, format: Format) -> Option<Format>
     ensures { result ≡ spec.format_with (option_map (λ v. view v.now) level.entry)
         (option_map (λ v. view v.now) width.entry) format }
 {

@@ -6,8 +6,9 @@ use Rattle.std.specs.Map.{lookup}
 use Rattle.std.specs.Str.Parse.{digits_value, without_leading_plus}
 use Rattle.promql_text.specs.Texts.{Text}
 use Rattle.promql_span.specs.Targets.{target_named}
+use Rattle.promql_span.specs.declared.differences.Printed.TheVariants.{Tree}
 use Rattle.promql_span.specs.declared.limits.Limits.{Limits}
-use Rattle.promql_span.specs.declared.target.Target.TheVariants.{Prometheus}
+use Rattle.promql_span.specs.declared.target.Target.TheVariants.{Prometheus3}
 
 -- a whole number below 2^64, in decimal digits, after a plus or not
 abbrev pub number_in : Text → Option ℕ
@@ -34,4 +35,4 @@ limits_with limits (name ∷ []) = None
 limits_with limits (name ∷ value ∷ words) = option_and_then (λ changed. limits_with changed words) (with_option limits name value)
 
 abbrev pub default_limits : Limits
-default_limits = record { max_len = 32768; max_pattern_size = 16000; max_output = 4194304; target = Prometheus }
+default_limits = record { max_len = 32768; max_pattern_size = 16000; max_output = 4194304; target = Prometheus3; printed = Tree }

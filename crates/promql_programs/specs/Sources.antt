@@ -12,6 +12,14 @@ abbrev pub IsTextIn : (is_file : Bool) → Text → Text → Type 0
 IsTextIn false input text = input ≡ text
 IsTextIn true input text = (input ≡ byte_order_mark ++ text) ⊎ ((input ≡ text) × ((rest : Text) → input ≢ byte_order_mark ++ rest))
 
--- the query of a text is that, or what is before the line feed at its end
+-- this is the text, or what is before this end of it
+abbrev pub IsBefore : Text → Text → Text → Type 0
+IsBefore end text front = (text ≡ front ++ end) ⊎ ((text ≡ front) × ((other : Text) → text ≢ other ++ end))
+
+-- a line may end with a carriage return
+abbrev pub IsLineIn : Text → Text → Type 0
+IsLineIn = IsBefore (codes "\r")
+
+-- the query of a text is that, or what is before the line end at its end
 abbrev pub IsQueryIn : Text → Text → Type 0
-IsQueryIn text query = (text ≡ query ++ codes "\n") ⊎ ((text ≡ query) × ((front : Text) → text ≢ front ++ codes "\n"))
+IsQueryIn text query = ((line : Text) × (text ≡ line ++ codes "\n") × IsLineIn line query) ⊎ ((text ≡ query) × ((other : Text) → text ≢ other ++ codes "\n"))

@@ -9,7 +9,7 @@ ghost use Rattle.promql_span.specs.declared.span.Span.{Span};
 ghost use Rattle.promql_programs.specs.Checking.{HasQuery, IsReported, IsSilent, IsWarned};
 ghost use Rattle.promql_programs.specs.CheckedInputs.{IsChecked, warning_text};
 ghost use Rattle.promql_programs.specs.Reports.{report_text};
-ghost use Rattle.promql_programs.specs.Sources.{IsQueryIn};
+ghost use Rattle.promql_programs.specs.Sources.{IsLineIn, IsQueryIn};
 ghost use Rattle.promql_run.specs.Programs.{Reads};
 ghost use Rattle.promql_run.specs.Inputs.{IsInput, IsNotUtf8};
 ghost use Rattle.promql_run.specs.StepErrors.{IsInputError};
@@ -93,13 +93,23 @@ fn warning(
     }
 }
 
-/// The text without a line feed at its end.
+/// The text without the line end at its end.
 pub(crate) fn query_in(text: &str) -> &str
     ensures { IsQueryIn text.now result.now }
 {
     match text.strip_suffix('\n') {
-        Some(query) => query,
+        Some(line) => without_return(line),
         None => text,
+    }
+}
+
+/// A line without the carriage return at its end.
+fn without_return(line: &str) -> &str
+    ensures { IsLineIn line.now result.now }
+{
+    match line.strip_suffix('\r') {
+        Some(query) => query,
+        None => line,
     }
 }
 

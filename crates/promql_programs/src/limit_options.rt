@@ -3,7 +3,7 @@
 ghost use Rattle.std.specs.Prelude.{◌≡◌, map, string_bytes};
 ghost use Rattle.promql_programs.specs.LimitOptions as spec;
 
-use promql_span::Target;
+use promql_span::{Printed, Target};
 use promql_span::limits::{Limits, MAX_LEN, MAX_OUTPUT, MAX_PATTERN_SIZE};
 
 /// The limits where no option changes them.
@@ -14,7 +14,8 @@ pub fn default_limits() -> Limits
         max_len: MAX_LEN,
         max_pattern_size: MAX_PATTERN_SIZE,
         max_output: MAX_OUTPUT,
-        target: Target::Prometheus,
+        target: Target::Prometheus3,
+        printed: Printed::Tree,
     }
 }
 

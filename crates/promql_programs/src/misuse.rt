@@ -132,7 +132,7 @@ fn may_be(name: &str, value: &str) -> bool {
 /// The values of an option of this name.
 fn values_of(name: &str) -> &'static str {
     match name {
-        "--target" => "prometheus-3 or rules",
+        "--target" => "prometheus-2.42, prometheus-3 or rules",
         "--color" => "auto, always or never",
         _ => "a whole number below 2^64",
     }

@@ -57,7 +57,7 @@ Reads a PromQL query from each FILE, or from standard input. Prints nothing wher
 it is accepted; otherwise, to standard error, the line and the column of the error,
 its message, and the line of the query with a mark below. What Prometheus reads
 otherwise, such as an escape of a byte past ASCII, is rejected; with --target rules
-it is accepted, and such an escape with a warning. A line feed at the end of the
+it is accepted, and such an escape with a warning. A line end at the end of the
 input is no part of the query. A query of more than --max-len bytes (32768), or with
 patterns that are together larger than --max-patterns (16000), is rejected before it
 is parsed. Messages have colours with --color always, none with --color never, and

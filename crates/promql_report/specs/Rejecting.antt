@@ -42,7 +42,7 @@ limit_place query (PatternsTooLarge size most place) = Some place
 abbrev pub IsReason : Limits → Text → Reason → Span → Type 0
 IsReason limits query (Limit fault) span = IsLimitFault query limits fault × (limit_place query fault ≡ Some span)
 IsReason limits query (Otherwise kind) span =
-    IsWithin query limits × ((t : Tree) × IsAnswerTo query (Ok t)) × (difference limits.target query ≡ Some (record { kind = kind; span = span }))
+    IsWithin query limits × ((t : Tree) × IsAnswerTo query (Ok t)) × (difference limits query ≡ Some (record { kind = kind; span = span }))
 IsReason limits query (Parse e) span = IsWithin query limits × IsAnswerTo query (Err (plain_error_of e)) × IsPlaceOf query e (Some span)
 
 -- this is why the query is rejected, at this part of it, and where that begins
@@ -67,7 +67,7 @@ IsMessage query r message =
 
 -- the query is within its limits, its target reads no part of it otherwise, and it has this tree
 abbrev pub IsRead : Limits → Text → Tree → Type 0
-IsRead limits query t = (IsWithin query limits × (difference limits.target query ≡ None)) × IsAnswerTo query (Ok t)
+IsRead limits query t = (IsWithin query limits × (difference limits query ≡ None)) × IsAnswerTo query (Ok t)
 
 -- it has a tree
 abbrev pub IsParsed : Limits → Text → Type 0

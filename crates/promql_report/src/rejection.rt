@@ -173,7 +173,7 @@ fn for_target(
     requires answer { IsAnswerTo query.now (Ok (tree_of expr)) }
     ensures { IfOk result (λ r. MatchResult r (λ e. IsRead limits.now query.now (tree_of e)) (IsRejection limits.now query.now)) }
 {
-    match limits.target.difference(alloc, query) {
+    match limits.difference(alloc, query) {
         Ok(None) => Ok(Ok(expr)),
         Ok(Some(Difference { kind, span })) => {
             drop_expr(expr);

@@ -17,7 +17,7 @@ use Rattle.promql_span.specs.declared.differences.Difference.{Difference}
 use Rattle.promql_span.specs.declared.differences.DifferenceKind.{DifferenceKind}
 use Rattle.promql_span.specs.declared.differences.DifferenceKind.TheVariants as kind
 use Rattle.promql_span.specs.declared.differences.Printed.{Printed}
-use Rattle.promql_span.specs.declared.differences.Printed.TheVariants.{Layout, Tree}
+use Rattle.promql_span.specs.declared.differences.Printed.TheVariants.{Layout, SortedLayout, Tree}
 use Rattle.promql_span.specs.declared.span.Span.{Span}
 
 -- tokens, each its id and its text
@@ -153,7 +153,9 @@ is_of_layout k = true
 
 abbrev pub is_of : Printed → DifferenceKind → Bool
 is_of Tree k = true
+is_of Layout kind.RepeatedLabel = false
 is_of Layout k = is_of_layout k
+is_of SortedLayout k = is_of_layout k
 
 abbrev pub counted : Printed → Option DifferenceKind → Option DifferenceKind
 counted printed None = None

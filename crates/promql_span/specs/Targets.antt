@@ -1,27 +1,30 @@
 -- What the target of a text reads otherwise (docs/reference/programs.md, "Targets").
-use Rattle.std.specs.Prelude.{ℕ, ◌==◌, bytes_eq, codes, [], ◌∷◌, Option, None}
+use Rattle.std.specs.Prelude.{ℕ, ◌==◌, Bool, if◌then◌else◌, bytes_eq, codes, [], ◌∷◌, Option, None}
 use Rattle.std.specs.Map.{lookup}
 use Rattle.promql_text.specs.Texts.{Text}
 use Rattle.promql_span.specs.ByteEscapes.{byte_escape}
 use Rattle.promql_span.specs.Differences.{first_difference}
 use Rattle.promql_span.specs.declared.differences.Difference.{Difference}
-use Rattle.promql_span.specs.declared.differences.Printed.TheVariants.{Layout, Tree}
+use Rattle.promql_span.specs.declared.differences.Printed.{Printed}
+use Rattle.promql_span.specs.declared.differences.Printed.TheVariants.{Layout, SortedLayout}
 use Rattle.promql_span.specs.declared.limits.Limits.{Limits}
 use Rattle.promql_span.specs.declared.span.Span.{Span}
 use Rattle.promql_span.specs.declared.target.Target.{Target}
-use Rattle.promql_span.specs.declared.target.Target.TheVariants.{Prometheus, PrometheusLayout, Rules}
+use Rattle.promql_span.specs.declared.target.Target.TheVariants.{Prometheus2, Prometheus3, Rules}
 
 abbrev pub target_named : Text → Option Target
-target_named name = lookup (bytes_eq name) ((codes "prometheus-3", Prometheus) ∷ (codes "rules", Rules) ∷ [])
+target_named name = lookup (bytes_eq name) ((codes "prometheus-2.42", Prometheus2) ∷ (codes "prometheus-3", Prometheus3) ∷ (codes "rules", Rules) ∷ [])
 
 abbrev pub target_numbered : ℕ → Option Target
-target_numbered n = lookup (λ m. n == m) ((0, Prometheus) ∷ (1, Rules) ∷ [])
+target_numbered n = lookup (λ m. n == m) ((0, Prometheus3) ∷ (1, Rules) ∷ (2, Prometheus2) ∷ [])
 
--- the first part of a query that the target reads otherwise
-abbrev pub difference : Target → Text → Option Difference
-difference Prometheus query = first_difference Tree query
-difference PrometheusLayout query = first_difference Layout query
-difference Rules query = None
+-- the first part of a query that the target reads otherwise than what is printed
+abbrev pub target_difference : Target → Printed → Text → Option Difference
+target_difference Rules printed query = None
+target_difference target printed query = first_difference printed query
+
+abbrev pub difference : Limits → Text → Option Difference
+difference limits query = target_difference limits.target limits.printed query
 
 -- of a matcher it reads nothing otherwise but byte escapes
 abbrev pub matcher_difference : Target → Text → Option Span
@@ -32,10 +35,6 @@ matcher_difference target text = byte_escape text
 abbrev pub for_rules : Limits → Limits
 for_rules limits = record limits { target = Rules }
 
--- limits for a layout, which is sent to the same target
-abbrev pub layout_target : Target → Target
-layout_target Rules = Rules
-layout_target target = PrometheusLayout
-
-abbrev pub for_layout : Limits → Limits
-for_layout limits = record limits { target = layout_target limits.target }
+-- limits for a layout, which may have its matchers in order
+abbrev pub for_layout : Bool → Limits → Limits
+for_layout sorts limits = record limits { printed = if sorts then SortedLayout else Layout }

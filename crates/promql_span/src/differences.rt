@@ -10,14 +10,14 @@ ghost use Rattle.promql_span.specs.Differences as spec;
 
 use crate::byte_escapes::{byte_escape, first_escape};
 use crate::limits::token_numbered;
+use crate::lookahead::{after_signs, comes_first, is_before_operand};
 use crate::span::Span;
 use promql_text::parse_str_radix;
 use promql_token::TokenId;
 use promql_token::cursor::Cursor;
 use promql_token::ids::{
-    T_ADD, T_AT, T_BOOL, T_COMMA, T_EQL, T_EQL_REGEX, T_IDENTIFIER, T_LEFT_BRACE, T_LEFT_PAREN,
-    T_NEQ, T_NEQ_REGEX, T_NUMBER, T_OPERATORS_END, T_OPERATORS_START, T_POW, T_RIGHT_BRACE,
-    T_STRING, T_SUB,
+    T_ADD, T_AT, T_EQL, T_EQL_REGEX, T_IDENTIFIER, T_LEFT_BRACE, T_LEFT_PAREN, T_NEQ, T_NEQ_REGEX,
+    T_NUMBER, T_POW, T_RIGHT_BRACE, T_STRING, T_SUB,
 };
 use std::alloc::{AllocError, Global};
 use thiserror::Error;
@@ -59,8 +59,10 @@ pub struct Difference {
 pub enum Printed {
     /// As its tree is, on one line or over several.
     Tree,
-    /// As a layout for people, in which signs, and times after `@`, stay as they are written.
+    /// As a layout for people, in which signs, times after `@` and the order of matchers stay as they are written.
     Layout,
+    /// As a layout whose matchers are in order.
+    SortedLayout,
 }
 
 impl DifferenceKind {
@@ -70,11 +72,12 @@ impl DifferenceKind {
     {
         match printed {
             Printed::Tree => true,
-            Printed::Layout => self.is_of_layout(),
+            Printed::Layout => self.is_of_layout() && !matches!(self, DifferenceKind::RepeatedLabel),
+            Printed::SortedLayout => self.is_of_layout(),
         }
     }
 
-    /// Whether it is one of a layout.
+    /// Whether it is one of a layout whose matchers are in order.
     fn is_of_layout(self) -> bool
         ensures { result ≡ spec.is_of_layout self }
     {
@@ -175,37 +178,6 @@ fn call_difference(
         return Ok(Some(DifferenceKind::RepeatedLabel));
     }
     Ok(None)
-}
-
-/// Whether this is the first token.
-fn comes_first(id: TokenId, tokens: Cursor<'_>) -> bool
-    ensures { result ≡ spec.comes_first id (tokens_left tokens.entry) }
-{
-    let mut tokens = tokens;
-    matches!(tokens.next(), Some((first, _)) if first == id)
-}
-
-/// Whether a minus after this token has one operand.
-fn is_before_operand(id: TokenId) -> bool
-    ensures { result ≡ spec.is_before_operand id }
-{
-    match id {
-        T_LEFT_PAREN | T_COMMA | T_BOOL => true,
-        T_AT => false,
-        _ => T_OPERATORS_START < id && id < T_OPERATORS_END,
-    }
-}
-
-/// The place after signs.
-fn after_signs(tokens: Cursor<'_>) -> Cursor<'_>
-    ensures { tokens_left result ≡ spec.after_signs (tokens_left tokens.entry) }
-{
-    let mut operand = tokens;
-    let mut after = operand;
-    while let Some((T_ADD | T_SUB, _)) = after.next() {
-        operand = after;
-    }
-    operand
 }
 
 /// Whether a number comes that is zero and no base of a power.

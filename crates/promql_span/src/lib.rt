@@ -11,6 +11,7 @@ mod kind_names;
 pub mod laws;
 pub mod limits;
 mod location;
+mod lookahead;
 mod placed;
 mod places;
 mod snippets;
@@ -21,7 +22,9 @@ mod visibility;
 
 pub use byte_escapes::byte_escape;
 pub use differences::{Difference, DifferenceKind, Printed, first_difference};
+pub use limits::token_numbered;
 pub use location::Location;
+pub use lookahead::{after_signs, comes_first, is_before_operand};
 pub use placed::PlacedTokens;
 pub use places::{argument_span, char_span, end_of_text, span_between, token_left};
 pub use snippets::snippet;

@@ -8,6 +8,7 @@ ghost use Rattle.promql_span.specs.PlacedTokens.{first_span, placed_tokens};
 ghost use Rattle.promql_span.specs.QueryLimits as spec;
 ghost use Rattle.promql_span.specs.Targets.{for_layout, for_rules};
 
+use crate::differences::Printed;
 use crate::placed::PlacedTokens;
 use crate::places::{end_of_text, span_of};
 use crate::span::Span;
@@ -40,27 +41,32 @@ pub struct Limits {
     pub max_output: usize,
     /// What reads its text with a matcher in its selectors, and its layout.
     pub target: Target,
+    /// How it is printed.
+    pub printed: Printed,
 }
 
 impl Default for Limits {
     ghost use Rattle.std.specs.Prelude.{◌≡◌};
     ghost use Rattle.promql_span.specs.declared.limits.TheConstants.{MAX_LEN, MAX_OUTPUT, MAX_PATTERN_SIZE};
-    ghost use Rattle.promql_span.specs.declared.target.Target.TheVariants.{Prometheus};
+    ghost use Rattle.promql_span.specs.declared.differences.Printed.TheVariants.{Tree};
+    ghost use Rattle.promql_span.specs.declared.target.Target.TheVariants.{Prometheus3};
 
     ghost is_default = { λ l. l ≡ record {
       max_len = MAX_LEN;
       max_pattern_size = MAX_PATTERN_SIZE;
       max_output = MAX_OUTPUT;
-      target = Prometheus;
+      target = Prometheus3;
+      printed = Tree;
     } };
 
-    /// `MAX_LEN`, `MAX_PATTERN_SIZE` and `MAX_OUTPUT`, for a Prometheus.
+    /// `MAX_LEN`, `MAX_PATTERN_SIZE` and `MAX_OUTPUT`, for a tree that Prometheus 3 reads.
     fn default() -> Limits {
         Limits {
             max_len: MAX_LEN,
             max_pattern_size: MAX_PATTERN_SIZE,
             max_output: MAX_OUTPUT,
-            target: Target::Prometheus,
+            target: Target::Prometheus3,
+            printed: Printed::Tree,
         }
     }
 }
@@ -76,14 +82,16 @@ impl Limits {
         }
     }
 
-    /// The same where the query is laid out for people.
-    pub fn for_layout(&self) -> Limits
-        ensures { result ≡ for_layout self.now }
+    /// The same where the query is laid out for people, with its matchers in order or as they are written.
+    pub fn for_layout(&self, sorts: bool) -> Limits
+        ensures { result ≡ for_layout sorts self.now }
     {
-        Limits {
-            target: self.target.for_layout(),
-            ..*self
-        }
+        let printed = if sorts {
+            Printed::SortedLayout
+        } else {
+            Printed::Layout
+        };
+        Limits { printed, ..*self }
     }
 }
 
@@ -253,7 +261,7 @@ impl Measured {
 }
 
 /// The token of this index, from 0, or the end of the text.
-pub(crate) fn token_numbered(text: &str, index: usize) -> Span
+pub fn token_numbered(text: &str, index: usize) -> Span
     ensures { result ≡ first_span text.now (drop index (placed_tokens text.now)) }
 {
     match PlacedTokens::new(text).nth(index) {

@@ -4,17 +4,18 @@ ghost use Rattle.std.specs.Prelude.{◌≡◌, IfOk};
 ghost use Rattle.promql_span.specs.Targets as spec;
 
 use crate::byte_escapes::byte_escape;
-use crate::differences::{Difference, Printed, first_difference};
+use crate::differences::{Difference, first_difference};
+use crate::limits::Limits;
 use crate::span::Span;
 use std::alloc::{AllocError, Global};
 
 /// What reads the text of a query after it was printed.
 #[derive(Clone, Copy, Debug, PartialEq, Eq)]
 pub enum Target {
-    /// A Prometheus, which reads some parts of a query otherwise.
-    Prometheus,
-    /// A Prometheus, where the query is laid out for people: signs, and times after `@`, stay as they are written then.
-    PrometheusLayout,
+    /// Prometheus 2.42.
+    Prometheus2,
+    /// Prometheus 3.
+    Prometheus3,
     /// The rules of this library.
     Rules,
 }
@@ -25,35 +26,22 @@ impl Target {
         ensures { result ≡ spec.target_named name.now }
     {
         match name {
-            "prometheus-3" => Some(Target::Prometheus),
+            "prometheus-2.42" => Some(Target::Prometheus2),
+            "prometheus-3" => Some(Target::Prometheus3),
             "rules" => Some(Target::Rules),
             _ => None,
         }
     }
 
-    /// The target of this number, by which the calls of the library name it: 0 for a Prometheus, 1 for the rules.
+    /// The target of this number, by which the calls of the library name it: 0 for Prometheus 3, 1 for the rules, 2 for Prometheus 2.42.
     pub fn from_number(number: u32) -> Option<Target>
         ensures { result ≡ spec.target_numbered number }
     {
         match number {
-            0 => Some(Target::Prometheus),
+            0 => Some(Target::Prometheus3),
             1 => Some(Target::Rules),
+            2 => Some(Target::Prometheus2),
             _ => None,
-        }
-    }
-
-    /// The first part of a query that the target reads otherwise than these rules.
-    ///
-    /// # Errors
-    ///
-    /// `AllocError` where an allocation failed.
-    pub fn difference(self, alloc: Global, query: &str) -> Result<Option<Difference>, AllocError>
-        ensures { IfOk result (λ d. d ≡ spec.difference self query.now) }
-    {
-        match self {
-            Target::Prometheus => first_difference(alloc, Printed::Tree, query),
-            Target::PrometheusLayout => first_difference(alloc, Printed::Layout, query),
-            Target::Rules => Ok(None),
         }
     }
 
@@ -62,18 +50,26 @@ impl Target {
         ensures { result ≡ spec.matcher_difference self text.now }
     {
         match self {
-            Target::Prometheus | Target::PrometheusLayout => byte_escape(text),
+            Target::Prometheus2 | Target::Prometheus3 => byte_escape(text),
             Target::Rules => None,
         }
     }
+}
 
-    /// The same target where the query is laid out.
-    pub(crate) fn for_layout(self) -> Target
-        ensures { result ≡ spec.layout_target self }
+impl Limits {
+    /// The first part of a query that the target reads otherwise than what is printed.
+    ///
+    /// # Errors
+    ///
+    /// `AllocError` where an allocation failed.
+    pub fn difference(&self, alloc: Global, query: &str) -> Result<Option<Difference>, AllocError>
+        ensures { IfOk result (λ d. d ≡ spec.difference self.now query.now) }
     {
-        match self {
-            Target::Prometheus | Target::PrometheusLayout => Target::PrometheusLayout,
-            Target::Rules => Target::Rules,
+        match self.target {
+            Target::Prometheus2 | Target::Prometheus3 => {
+                first_difference(alloc, self.printed, query)
+            }
+            Target::Rules => Ok(None),
         }
     }
 }

@@ -9,7 +9,7 @@ use promql_programs::usage::BATCH_HELP;
 use promql_run::ended::Ended;
 use promql_run::format::Format;
 use promql_run::run::RunError;
-use promql_span::Target;
+use promql_span::{Printed, Target};
 use promql_span::limits::{Limits, MAX_LEN, MAX_OUTPUT, MAX_PATTERN_SIZE};
 use std::alloc::Global;
 use std::io;
@@ -23,7 +23,8 @@ const LINE: Settings = Settings {
         max_len: MAX_LEN,
         max_pattern_size: MAX_PATTERN_SIZE,
         max_output: MAX_OUTPUT,
-        target: Target::Prometheus,
+        target: Target::Prometheus3,
+        printed: Printed::Tree,
     },
 };
 
@@ -32,7 +33,7 @@ const LINES: &[u8] =
 
 const ANSWERS: &[u8] = b"{\"ok\":\"1 + 2\"}
 {\"id\":7,\"ok\":{\"matchers\":[],\"name\":\"a\",\"offset\":0,\"startOrEnd\":null,\"timestamp\":null,\"type\":\"vectorSelector\"}}
-{\"code\":7,\"error\":\"line is not a request\"}
+{\"code\":7,\"error\":\"line is not a request: it is not JSON, or nested too deeply\"}
 {\"code\":4,\"column\":3,\"end\":3,\"error\":\"invalid promql query\",\"expected\":[\"\\\"{\\\"\",\"\\\"[\\\"\",\"\\\"(\\\"\",\"operator\",\"\\\"@\\\"\",\"\\\"offset\\\"\",\"\\\"smoothed\\\"\",\"\\\"anchored\\\"\",\"end of query\"],\"found\":\"identifier \\\"b\\\"\",\"line\":1,\"start\":2}
 {\"code\":3,\"error\":\"input is not UTF-8\"}
 {\"ok\":\"x\"}
@@ -62,7 +63,7 @@ fn ends_of_the_input(rt: HostRuntime) {
     check_batch(&rt, alloc, b"", b"", true);
     check_batch(&rt, alloc, b"\"1\"", b"{\"ok\":\"1\"}\n", true);
     check_batch(&rt, alloc, b"\"1\"\n", b"{\"ok\":\"1\"}\n", true);
-    let empty = b"{\"code\":7,\"error\":\"line is not a request\"}\n";
+    let empty = b"{\"code\":7,\"error\":\"line is not a request: it is not JSON, or nested too deeply\"}\n";
     check_batch(&rt, alloc, b"\n", empty, false);
 }
 
@@ -92,20 +93,21 @@ fn a_reader_that_fails(rt: HostRuntime) {
 #[test]
 fn a_writer_that_fails(rt: HostRuntime) {
     let alloc = rt.alloc();
-    let want = b"{\"ok\":\"1\"}\n{\"code\":7,\"error\":\"line is not a request\"}\n";
-    // 10 bytes and 42 are 18 writes, their line feeds two, and the flushes before the end is read and after it two more.
-    for fails_at in 1..=23 {
+    let want = b"{\"ok\":\"1\"}\n{\"code\":7,\"error\":\"line is not a request: it is neither a text nor an object with a text \\\"query\\\"\"}\n";
+    // 10 bytes and 100 are 38 writes, their line feeds two, and the flushes before the end is read and after it two more.
+    let all: usize = 42;
+    for fails_at in 1..=43 {
         let mut reader = Ended::new(b"\"1\"\n1\n".as_slice());
         let mut writer = Ended::new(FlakyWriter::new(alloc, fails_at, 0));
         let answer = run_batch(alloc, &LINE, &mut reader, &mut writer);
-        let want_answer = if fails_at <= 22 {
+        let want_answer = if fails_at <= all {
             Err(RunError::Write)
         } else {
             Ok(false)
         };
         check_value(&rt, answer, want_answer, &fails_at);
-        assert_eq!(rt; writer.has_failed(), fails_at <= 22);
-        assert_eq!(rt; writer.inner().calls, fails_at.min(22));
+        assert_eq!(rt; writer.has_failed(), fails_at <= all);
+        assert_eq!(rt; writer.inner().calls, fails_at.min(all));
         assert!(rt;
             want.starts_with(writer.inner().held.as_slice()),
             "at {fails_at}"
@@ -167,7 +169,11 @@ fn statuses_of_batches(rt: HostRuntime) {
         alloc,
         &["", "batch", "json"],
         b"1",
-        (4, "{\"code\":7,\"error\":\"line is not a request\"}\n", ""),
+        (
+            4,
+            "{\"code\":7,\"error\":\"line is not a request: it is neither a text nor an object with a text \\\"query\\\"\"}\n",
+            "",
+        ),
     );
     check_program(
         &rt,

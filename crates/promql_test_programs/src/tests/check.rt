@@ -139,7 +139,7 @@ const MISUSES: [(&[&str], &str); 9] = [
     (&["", "check", "--color"], "--color needs a value\n"),
     (
         &["", "check", "--target", "prometheus"],
-        "--target is prometheus-3 or rules, not \"prometheus\"\n",
+        "--target is prometheus-2.42, prometheus-3 or rules, not \"prometheus\"\n",
     ),
     (
         &["", "check", "--keep-spelling"],

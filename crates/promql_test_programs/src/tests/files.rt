@@ -18,7 +18,7 @@ impl OpensFiles for ThreeFiles {
     fn open(&mut self, _alloc: Global, name: &str) -> io::Result<&'static [u8]> {
         match name {
             "sum" => Ok(b"sum(a)by(b)\n"),
-            "--wrong" => Ok(b"\xef\xbb\xbf1 +\n"),
+            "--wrong" => Ok(b"\xef\xbb\xbf1 +\r\n"),
             "lines" => Ok(b"\"1\"\n2\n"),
             _ => Err(io::Error::from(ErrorKind::NotFound)),
         }
@@ -58,7 +58,7 @@ const ROWS: [Row; 7] = [
     (
         &["", "batch", "line", "lines", "none"],
         4,
-        "{\"ok\":\"1\"}\n{\"code\":7,\"error\":\"line is not a request\"}\n",
+        "{\"ok\":\"1\"}\n{\"code\":7,\"error\":\"line is not a request: it is neither a text nor an object with a text \\\"query\\\"\"}\n",
         "none: entity not found\n",
     ),
 ];

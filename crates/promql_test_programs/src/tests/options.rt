@@ -2,6 +2,7 @@
 
 use super::is_so;
 use promql_lines::query_error::{Measured, QueryError};
+use promql_lines::request_fault::RequestFault;
 use promql_parser::parser::ParseError;
 use promql_run::run::RunError;
 use promql_span::limits::LimitFault;
@@ -30,8 +31,8 @@ fn errors_heed_no_option(rt: HostRuntime) {
     heeds_none(
         &rt,
         alloc,
-        &QueryError::NotARequest,
-        "line is not a request",
+        &QueryError::NotARequest(RequestFault::Enforce),
+        "line is not a request: \"enforce\" is not a text",
     );
     let fault = LimitFault::TooLong { len: 9, most: 8 };
     heeds_none(

@@ -5,7 +5,7 @@ use promql_lines::query_error::QueryError;
 use promql_lines::read_form::MAX_TREE;
 use promql_lines::tree_text::tree_text;
 use promql_run::format::{Format, Layout};
-use promql_span::Target;
+use promql_span::{Printed, Target};
 use promql_span::limits::Limits;
 use std::alloc::{AllocError, Global};
 
@@ -140,6 +140,7 @@ const SMALL: Limits = Limits {
     max_pattern_size: 18,
     max_output: 5,
     target: Target::Rules,
+    printed: Printed::Tree,
 };
 
 /// Forms that are not within the limits, and others.

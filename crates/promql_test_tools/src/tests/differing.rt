@@ -105,9 +105,11 @@ const LAID_OUT: &str = r#"1 / -0.0 => none
 foo @ 1.0005 => none
 timestamp(+foo) => none
 -0 + absent(+foo{a="b"}) => none
--0 + absent(foo{a="b",a!="b"}) => label: absent
 -0 + "\xc3" => byte: \xc3
 +{a="\ufffd"} => replacement: "\ufffd""#;
+
+/// A query whose matchers a layout may sort.
+const MATCHERS: &str = r#"-0 + absent(foo{a="b",a!="b"}) + "\xc3""#;
 
 /// The name of the kind of the first difference, and the text of its part.
 fn shown(alloc: Global, printed: Printed, query: &str) -> Result<String, Failed> {
@@ -129,7 +131,18 @@ fn first_differences_are_found(rt: HostRuntime) {
     for row in LAID_OUT.split('\n') {
         let (query, want) = columns(row);
         prints(&rt, shown(rt.alloc(), Printed::Layout, query), want);
+        prints(&rt, shown(rt.alloc(), Printed::SortedLayout, query), want);
     }
+    prints(
+        &rt,
+        shown(rt.alloc(), Printed::Layout, MATCHERS),
+        "byte: \\xc3",
+    );
+    prints(
+        &rt,
+        shown(rt.alloc(), Printed::SortedLayout, MATCHERS),
+        "label: absent",
+    );
 }
 
 /// A call of `absent` with so many matchers of as many labels, and one matcher more.

@@ -1,7 +1,7 @@
 use Rattle.std.proofs.Common.{◌≡◌, length}
 use Rattle.promql_token.specs.Cursor.{tokens_left}
 use Rattle.promql_span.specs.Differences.{after_signs}
-use Rattle.promql_span.proofs.differences.after_signs.Given as goal
+use Rattle.promql_span.proofs.lookahead.after_signs.Given as goal
 
 abbrev pub decreases-loop-operand : goal.decreases-loop-operand
 decreases-loop-operand l = length (tokens_left l.after)

@@ -1,0 +1,42 @@
+//! What tokens come next: docs/reference/programs.md, "Targets".
+
+ghost use Rattle.std.specs.Prelude.{◌≡◌};
+ghost use Rattle.promql_token.specs.Cursor.{tokens_left};
+ghost use Rattle.promql_span.specs.Differences as spec;
+
+use promql_token::TokenId;
+use promql_token::cursor::Cursor;
+use promql_token::ids::{
+    T_ADD, T_AT, T_BOOL, T_COMMA, T_LEFT_PAREN, T_OPERATORS_END, T_OPERATORS_START, T_SUB,
+};
+
+/// Whether this is the first token.
+pub fn comes_first(id: TokenId, tokens: Cursor<'_>) -> bool
+    ensures { result ≡ spec.comes_first id (tokens_left tokens.entry) }
+{
+    let mut tokens = tokens;
+    matches!(tokens.next(), Some((first, _)) if first == id)
+}
+
+/// Whether a sign after this token has one operand.
+pub fn is_before_operand(id: TokenId) -> bool
+    ensures { result ≡ spec.is_before_operand id }
+{
+    match id {
+        T_LEFT_PAREN | T_COMMA | T_BOOL => true,
+        T_AT => false,
+        _ => T_OPERATORS_START < id && id < T_OPERATORS_END,
+    }
+}
+
+/// The place after signs.
+pub fn after_signs(tokens: Cursor<'_>) -> Cursor<'_>
+    ensures { tokens_left result ≡ spec.after_signs (tokens_left tokens.entry) }
+{
+    let mut operand = tokens;
+    let mut after = operand;
+    while let Some((T_ADD | T_SUB, _)) = after.next() {
+        operand = after;
+    }
+    operand
+}

@@ -1,0 +1,339 @@
+//! The first part of a query that a server rejects: docs/reference/targets.md.
+
+ghost use Rattle.std.specs.Prelude.{◌≡◌, IfOk};
+ghost use Rattle.promql_token.specs.Cursor.{tokens_left};
+ghost use Rattle.promql_target.specs.Refusals as spec;
+
+use crate::area::{Area, Place, start};
+use crate::later::{is_later, is_logarithm};
+use promql_span::{Span, Target, after_signs, comes_first, is_before_operand, token_numbered};
+use promql_text::parse_duration;
+use promql_token::TokenId;
+use promql_token::cursor::Cursor;
+use promql_token::ids::{
+    T_ADD, T_ANCHORED, T_ATAN2, T_BY, T_DURATION, T_EQL, T_EQL_REGEX, T_FILL, T_FILL_LEFT,
+    T_FILL_RIGHT, T_LEFT_BRACE, T_LEFT_BRACKET, T_LEFT_PAREN, T_LIMITK, T_LIMIT_RATIO, T_LOR,
+    T_NEQ, T_NEQ_REGEX, T_NUMBER, T_RIGHT_BRACE, T_RIGHT_PAREN, T_SMOOTHED, T_STRING, T_SUB,
+    T_WITHOUT,
+};
+use thiserror::Error;
+
+/// What a server rejects, and these rules accept.
+#[derive(Clone, Copy, Debug, PartialEq, Eq, Error)]
+pub enum RefusalKind {
+    /// `or` between matchers.
+    #[error("it knows no `or` between matchers")]
+    OrGroup,
+    /// The name of a metric or of a label in quotes.
+    #[error("names in quotes are of a later version")]
+    QuotedName,
+    /// `fill`, `fill_left` or `fill_right` after an operator.
+    #[error("`fill`, `fill_left` and `fill_right` are of a later version")]
+    Fill,
+    /// `smoothed` or `anchored` after a range.
+    #[error("`smoothed` and `anchored` are of a later version")]
+    RangeMode,
+    /// A number for a length of time.
+    #[error("a length of time without a unit is of a later version; write 300s for 300")]
+    NumberForTime,
+    /// A duration for a number.
+    #[error("a duration for a number is of a later version; write 300 for 5m")]
+    DurationForNumber,
+    /// A duration of more than 2^63 - 1 nanoseconds.
+    #[error("a duration is at most 2^63 - 1 nanoseconds there, some 292 years")]
+    LongDuration,
+    /// A plus after `offset`.
+    #[error("a plus after `offset` is of a later version; leave it out")]
+    PlusAfterOffset,
+    /// A function of a later version.
+    #[error("the function is of a later version")]
+    LaterFunction,
+    /// An aggregation of a later version.
+    #[error("the aggregation is of a later version")]
+    LaterAggregator,
+    /// A plus before a string, or before a selector with a range.
+    #[error("a sign is before numbers and instant vectors only there; leave it out")]
+    PlusBeforeValue,
+    /// The character U+FFFD in a string.
+    #[error("the character U+FFFD stands for bytes that are not UTF-8 there; write \\ufffd in quotes for it")]
+    ReplacementCharacter,
+    /// `atan2` as the name of a metric.
+    #[error("`atan2` is an operator there; write {{__name__=\"atan2\"}} for the metric")]
+    BareAtan2,
+    /// `without` in a list of labels.
+    #[error("`without` is no label in a list there")]
+    LabelWithout,
+    /// A number for the vector of `exp`, `ln`, `log2` or `log10`.
+    #[error("the argument is an instant vector there; write vector(..) around the number")]
+    NumberForVector,
+}
+
+impl RefusalKind {
+    /// Whether a target rejects it.
+    fn is_of(self, target: Target) -> bool
+        ensures { result ≡ spec.is_of target self }
+    {
+        match target {
+            Target::Prometheus2 => true,
+            Target::Prometheus3 => self.is_lasting(),
+            Target::Rules => false,
+        }
+    }
+
+    /// Whether a later version rejects it, too.
+    fn is_lasting(self) -> bool
+        ensures { result ≡ spec.is_lasting self }
+    {
+        match self {
+            RefusalKind::OrGroup
+            | RefusalKind::LongDuration
+            | RefusalKind::PlusBeforeValue
+            | RefusalKind::ReplacementCharacter
+            | RefusalKind::NumberForVector => true,
+            RefusalKind::QuotedName
+            | RefusalKind::Fill
+            | RefusalKind::RangeMode
+            | RefusalKind::NumberForTime
+            | RefusalKind::DurationForNumber
+            | RefusalKind::PlusAfterOffset
+            | RefusalKind::LaterFunction
+            | RefusalKind::LaterAggregator
+            | RefusalKind::BareAtan2
+            | RefusalKind::LabelWithout => false,
+        }
+    }
+}
+
+/// A part of a query that a server rejects.
+#[derive(Clone, Copy, Debug, PartialEq, Eq)]
+pub struct Refusal {
+    /// What it is.
+    pub kind: RefusalKind,
+    /// The token with which it begins.
+    pub span: Span,
+}
+
+/// The first part of a query that a target rejects, where these rules accept the query; `None` where it is not known to reject any. It
+/// looks at the tokens up to a lexical fault, once, and allocates nothing.
+pub fn first_refusal(target: Target, query: &str) -> Option<Refusal>
+    ensures { result ≡ spec.first_refusal target query.now }
+{
+    let mut tokens = Cursor::new(query);
+    let mut place = start();
+    let mut index: usize = 0;
+    while let Some((id, token)) = tokens.next() {
+        if let Some(kind) = kind_at(place, id, token, tokens)
+            && kind.is_of(target)
+        {
+            let span = token_numbered(query, index);
+            return Some(Refusal { kind, span });
+        }
+        place = place.after(id);
+        index += 1;
+    }
+    None
+}
+
+/// What is rejected at a token, which has `rest` after it.
+fn kind_at(place: Place, id: TokenId, token: &str, rest: Cursor<'_>) -> Option<RefusalKind>
+    ensures { result ≡ spec.kind_at place (id, token.now) (tokens_left rest.entry) }
+{
+    match id {
+        T_STRING => string_kind(place, token.as_bytes()),
+        T_DURATION => duration_kind(place, token),
+        T_NUMBER => place.is_before_time().then_some(RefusalKind::NumberForTime),
+        T_ADD => plus_kind(place, rest),
+        _ => word_kind(place, id, token, rest),
+    }
+}
+
+/// What is rejected at a string.
+fn string_kind(place: Place, string: &[u8]) -> Option<RefusalKind>
+    ensures { result ≡ spec.string_kind place string.now }
+{
+    if is_for_name(place) {
+        Some(RefusalKind::QuotedName)
+    } else if has_replacement_character(string) {
+        Some(RefusalKind::ReplacementCharacter)
+    } else {
+        None
+    }
+}
+
+/// Whether a string there is a name.
+fn is_for_name(place: Place) -> bool
+    ensures { result ≡ spec.is_for_name place }
+{
+    match place.area {
+        Area::Braces => !matches!(place.before, T_EQL | T_NEQ | T_EQL_REGEX | T_NEQ_REGEX),
+        area => area.has_labels(),
+    }
+}
+
+/// Whether a string has the character itself.
+fn has_replacement_character(string: &[u8]) -> bool
+    ensures { result ≡ spec.has_replacement_character string.now }
+{
+    let mut rest = string;
+    while let [b, after @ ..] = rest {
+        if *b == 0xef && after.starts_with(&[0xbf, 0xbd]) {
+            return true;
+        }
+        rest = after;
+    }
+    false
+}
+
+/// What is rejected at a duration.
+fn duration_kind(place: Place, duration: &str) -> Option<RefusalKind>
+    ensures { result ≡ spec.duration_kind place duration.now }
+{
+    if is_long(duration) {
+        Some(RefusalKind::LongDuration)
+    } else if place.is_before_time() {
+        None
+    } else {
+        Some(RefusalKind::DurationForNumber)
+    }
+}
+
+/// Whether a duration has more nanoseconds than 63 bits hold.
+fn is_long(duration: &str) -> bool
+    ensures { result ≡ spec.is_long duration.now }
+{
+    match parse_duration(duration) {
+        Ok(length) => length.as_nanos() >= 9_223_372_036_854_775_808,
+        Err(_) => false,
+    }
+}
+
+/// What is rejected at a plus.
+fn plus_kind(place: Place, rest: Cursor<'_>) -> Option<RefusalKind>
+    ensures { result ≡ spec.plus_kind place (tokens_left rest.entry) }
+{
+    if place.in_offset {
+        Some(RefusalKind::PlusAfterOffset)
+    } else if is_before_operand(place.before) && begins_with_value(in_signs(rest)) {
+        Some(RefusalKind::PlusBeforeValue)
+    } else {
+        None
+    }
+}
+
+/// The place after signs and opening parentheses.
+fn in_signs(tokens: Cursor<'_>) -> Cursor<'_>
+    ensures { tokens_left result ≡ spec.in_signs (tokens_left tokens.entry) }
+{
+    let mut operand = tokens;
+    let mut after = operand;
+    while let Some((T_ADD | T_SUB | T_LEFT_PAREN, _)) = after.next() {
+        operand = after;
+    }
+    operand
+}
+
+/// Whether a string comes, or a selector with a range.
+fn begins_with_value(tokens: Cursor<'_>) -> bool
+    ensures { result ≡ spec.begins_with_value (tokens_left tokens.entry) }
+{
+    comes_first(T_STRING, tokens) || comes_first(T_LEFT_BRACKET, after_selector(tokens))
+}
+
+/// The place after a name and braces, or after one of the two.
+fn after_selector(tokens: Cursor<'_>) -> Cursor<'_>
+    ensures { tokens_left result ≡ spec.after_selector (tokens_left tokens.entry) }
+{
+    if comes_first(T_LEFT_BRACE, tokens) {
+        return after_brace(tokens);
+    }
+    let name = past_token(tokens);
+    if comes_first(T_LEFT_BRACE, name) {
+        after_brace(name)
+    } else {
+        name
+    }
+}
+
+/// The place after a token.
+fn past_token(tokens: Cursor<'_>) -> Cursor<'_>
+    ensures { tokens_left result ≡ spec.past_token (tokens_left tokens.entry) }
+{
+    let mut after = tokens;
+    let _ = after.next();
+    after
+}
+
+/// The place after a closing brace.
+fn after_brace(tokens: Cursor<'_>) -> Cursor<'_>
+    ensures { tokens_left result ≡ spec.after_brace (tokens_left tokens.entry) }
+{
+    let mut rest = tokens;
+    while let Some((id, _)) = rest.next() {
+        if id == T_RIGHT_BRACE {
+            return rest;
+        }
+    }
+    rest
+}
+
+/// What is rejected at a word, or at another token.
+fn word_kind(place: Place, id: TokenId, word: &str, rest: Cursor<'_>) -> Option<RefusalKind>
+    ensures { result ≡ spec.word_kind place (id, word.now) (tokens_left rest.entry) }
+{
+    match place.area {
+        Area::Braces => {
+            (id == T_LOR && place.before == T_STRING).then_some(RefusalKind::OrGroup)
+        }
+        Area::Clause | Area::Matching => {
+            (id == T_WITHOUT).then_some(RefusalKind::LabelWithout)
+        }
+        Area::Brackets => None,
+        Area::Open if place.is_after_operand() => {
+            matches!(id, T_SMOOTHED | T_ANCHORED).then_some(RefusalKind::RangeMode)
+        }
+        Area::Open => operand_kind(id, word, rest),
+    }
+}
+
+/// What is rejected at a word with which an operand begins.
+fn operand_kind(id: TokenId, word: &str, rest: Cursor<'_>) -> Option<RefusalKind>
+    ensures { result ≡ spec.operand_kind (id, word.now) (tokens_left rest.entry) }
+{
+    match id {
+        T_ATAN2 => Some(RefusalKind::BareAtan2),
+        T_FILL | T_FILL_LEFT | T_FILL_RIGHT if comes_first(T_LEFT_PAREN, rest) => {
+            Some(RefusalKind::Fill)
+        }
+        T_LIMITK | T_LIMIT_RATIO if is_aggregation(rest) => Some(RefusalKind::LaterAggregator),
+        _ if comes_first(T_LEFT_PAREN, rest) => call_kind(word, past_token(rest)),
+        _ => None,
+    }
+}
+
+/// Whether what comes makes an aggregation of the operator before it.
+fn is_aggregation(rest: Cursor<'_>) -> bool
+    ensures { result ≡ spec.is_aggregation (tokens_left rest.entry) }
+{
+    comes_first(T_LEFT_PAREN, rest) || comes_first(T_BY, rest) || comes_first(T_WITHOUT, rest)
+}
+
+/// What is rejected of a call with these arguments.
+fn call_kind(name: &str, arguments: Cursor<'_>) -> Option<RefusalKind>
+    ensures { result ≡ spec.call_kind name.now (tokens_left arguments.entry) }
+{
+    if is_later(name) {
+        Some(RefusalKind::LaterFunction)
+    } else if is_logarithm(name) && is_number(after_signs(arguments)) {
+        Some(RefusalKind::NumberForVector)
+    } else {
+        None
+    }
+}
+
+/// Whether a number or a duration comes, and then a closing parenthesis.
+fn is_number(argument: Cursor<'_>) -> bool
+    ensures { result ≡ spec.is_number (tokens_left argument.entry) }
+{
+    (comes_first(T_NUMBER, argument) || comes_first(T_DURATION, argument))
+        && comes_first(T_RIGHT_PAREN, past_token(argument))
+}
