@@ -5,7 +5,7 @@
 ghost use Rattle.std.specs.Prelude.{◌≡◌, ◌==◌, [], not, Some, Ok};
 ghost use Rattle.promql_run.specs.declared.format.Format.TheVariants.{Line};
 ghost use Rattle.promql_c.specs.CallResults.{Shows, ShowsSome};
-ghost use Rattle.promql_span.specs.Targets.{for_rules};
+ghost use Rattle.promql_span.specs.Targets.{for_check, for_rules};
 ghost use Rattle.promql_c.specs.CallLimits.{limits_of};
 ghost use Rattle.promql_c.specs.Calls.{IsEnforceOf, IsExplainOf, IsFormattedOf, IsPrintOf, IsRenameOf, IsSnippetOf, IsTextOf, IsTokensOf, IsTreePrintOf};
 ghost use Rattle.promql_c.specs.CollectedTexts.{IsCollectedText};
@@ -172,9 +172,9 @@ pub extern "C" fn call_check(
     buffer: &mut [u8],
     shown: &mut CallResult,
 )
-    ensures { ShowsSome (IsTextOf (λ t text. text ≡ []) (limits_of limits.now) query.now) shown.new buffer.old buffer.new }
+    ensures { ShowsSome (IsTextOf (λ t text. text ≡ []) (for_check (limits_of limits.now)) query.now) shown.new buffer.old buffer.new }
 {
-    *shown = calls::check(alloc, &limits.limits(), query, buffer);
+    *shown = calls::check(alloc, &limits.limits().for_check(), query, buffer);
 }
 
 /// `calls::explain`.
@@ -187,9 +187,9 @@ pub extern "C" fn call_explain(
     buffer: &mut [u8],
     shown: &mut CallResult,
 )
-    ensures { ShowsSome (IsExplainOf (limits_of limits.now) (not (as_json == 0)) query.now) shown.new buffer.old buffer.new }
+    ensures { ShowsSome (IsExplainOf (for_check (limits_of limits.now)) (not (as_json == 0)) query.now) shown.new buffer.old buffer.new }
 {
-    *shown = calls::explain(alloc, &limits.limits(), query, as_json, buffer);
+    *shown = calls::explain(alloc, &limits.limits().for_check(), query, as_json, buffer);
 }
 
 /// `calls::snippet`.

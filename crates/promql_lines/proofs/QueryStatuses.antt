@@ -12,7 +12,7 @@ is_own n = not (n == 0 || n == 2 || n == 5)
 numbers_are_own : (e : QueryError) → is_own (query_error_number e) ≡ true
 numbers_are_own error.Memory = refl
 numbers_are_own error.NotUtf8 = refl
-numbers_are_own (error.Rejected r) = ⊎_elim (λ is. ap is_own is) (⊎_elim (λ is. ap is_own is) (λ is. ap is_own is)) (rejected_status r.rejection.reason)
+numbers_are_own (error.Rejected r) = ⊎_elim (λ is. ap is_own is) (⊎_elim (λ is. ap is_own is) (⊎_elim (λ is. ap is_own is) (λ is. ap is_own is))) (rejected_status r.rejection.reason)
 numbers_are_own (error.NoForm e) = refl
 numbers_are_own (error.NotARequest fault) = refl
 numbers_are_own (error.UnknownMember name) = refl
@@ -42,7 +42,8 @@ three_is_not_utf8 error.NotUtf8 three = refl
 three_is_not_utf8 (error.Rejected r) three =
     ⊎_elim
     (λ is. let same : 4 ≡ 3 = sym is ∙ three in cc)
-    (⊎_elim (λ is. let same : 14 ≡ 3 = sym is ∙ three in cc) (λ is. let same : 23 ≡ 3 = sym is ∙ three in cc))
+    (⊎_elim (λ is. let same : 14 ≡ 3 = sym is ∙ three in cc)
+    (⊎_elim (λ is. let same : 23 ≡ 3 = sym is ∙ three in cc) (λ is. let same : 24 ≡ 3 = sym is ∙ three in cc)))
     (rejected_status r.rejection.reason)
 three_is_not_utf8 error.Memory three = cc
 three_is_not_utf8 (error.NoForm e) three = cc

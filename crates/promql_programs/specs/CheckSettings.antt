@@ -2,6 +2,7 @@
 use Rattle.std.specs.Prelude.{Bool, true, false, bytes_eq, codes, if◌then◌else◌, List, [], ◌∷◌, Option, Some, None, option_and_then}
 use Rattle.std.specs.Map.{lookup}
 use Rattle.promql_text.specs.Texts.{Text}
+use Rattle.promql_span.specs.Targets.{for_check}
 use Rattle.promql_programs.specs.LimitOptions.{default_limits, limits_with}
 use Rattle.promql_programs.specs.declared.check_settings.CheckSettings.{CheckSettings}
 
@@ -18,4 +19,4 @@ settings_with usual s (name ∷ value ∷ words) =
     else option_and_then (λ limits. settings_with usual (record s { limits = limits }) words) (limits_with s.limits (name ∷ value ∷ []))
 
 abbrev pub check_settings_of : Bool → List Text → Option CheckSettings
-check_settings_of usual = settings_with usual (record { limits = default_limits; colors = usual })
+check_settings_of usual = settings_with usual (record { limits = for_check default_limits; colors = usual })

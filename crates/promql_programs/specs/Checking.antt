@@ -17,7 +17,7 @@ use Rattle.promql_run.specs.declared.colors.TheConstants.{MAGENTA}
 use Rattle.promql_run.specs.declared.ended.Ended.{Ended}
 use Rattle.promql_programs.specs.Reports.{report_text}
 use Rattle.promql_programs.specs.Sources.{IsQueryIn, IsTextIn}
-use Rattle.promql_programs.specs.declared.check.TheConstants.{BYTE_ESCAPE, LIMIT_STATUS, OTHERWISE_STATUS, REJECTED_STATUS, WARNING}
+use Rattle.promql_programs.specs.declared.check.TheConstants.{BYTE_ESCAPE, LIMIT_STATUS, OTHERWISE_STATUS, REFUSED_STATUS, REJECTED_STATUS, WARNING}
 use Rattle.promql_programs.specs.declared.check_settings.CheckSettings.{CheckSettings}
 use Rattle.promql_programs.specs.declared.reports.TheConstants.{BYTE_ORDER_MARK}
 
@@ -43,6 +43,10 @@ IsReported s prefix status report query =
     × ((message : Text) × (said : Text) × IsMessage query r message × ((said ≡ message) ⊎ (said ≡ message ++ BYTE_ORDER_MARK.now))
     × (report ≡ report_text s.colors prefix query r.location r.span (encode_utf8_all (visible (chars said)))))
 
+-- the statuses of a query that is rejected
+abbrev pub IsRejected : ℕ → Type 0
+IsRejected status = (status ≡ REJECTED_STATUS) ⊎ (status ≡ LIMIT_STATUS) ⊎ (status ≡ OTHERWISE_STATUS) ⊎ (status ≡ REFUSED_STATUS)
+
 -- where the query is accepted, nothing is said, or the warning of a byte escape; where it is rejected, its report is; else an error ends it
 pub record ChecksQuery {R E : Type 0} (remaining : R → Option (List ℕ)) (said : E → Option (List ℕ)) (s : CheckSettings) (is_file : Bool) (prefix : Text)
     (reader reader_after : Ended R) (errors errors_after : Ended E) (status : ℕ) : Type 0 where
@@ -50,7 +54,7 @@ pub record ChecksQuery {R E : Type 0} (remaining : R → Option (List ℕ)) (sai
   pub accepted : status ≡ 0 → (HasQuery is_file (IsSilent s.limits) (remaining reader.inner) (remaining reader_after.inner) × (errors_after ≡ errors))
       ⊎ ((warning : Text) × HasQuery is_file (IsWarned s prefix warning) (remaining reader.inner) (remaining reader_after.inner)
       × (errors_after.failed ≡ false → Appends (said errors.inner) (said errors_after.inner) warning))
-  pub rejected : (status ≡ REJECTED_STATUS) ⊎ (status ≡ LIMIT_STATUS) ⊎ (status ≡ OTHERWISE_STATUS) → (report : Text)
+  pub rejected : IsRejected status → (report : Text)
       × HasQuery is_file (IsReported s prefix status report) (remaining reader.inner) (remaining reader_after.inner)
       × (errors_after.failed ≡ false → Appends (said errors.inner) (said errors_after.inner) report)
-  pub known : (status ≡ 0) ⊎ (status ≡ 1) ⊎ (status ≡ 2) ⊎ (status ≡ 3) ⊎ (status ≡ REJECTED_STATUS) ⊎ (status ≡ LIMIT_STATUS) ⊎ (status ≡ OTHERWISE_STATUS)
+  pub known : (status ≡ 0) ⊎ (status ≡ 1) ⊎ (status ≡ 2) ⊎ (status ≡ 3) ⊎ IsRejected status

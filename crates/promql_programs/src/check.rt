@@ -6,7 +6,7 @@ ghost use Rattle.promql_text.specs.Texts.{Text};
 ghost use Rattle.promql_span.specs.ByteEscapes.{byte_escape};
 ghost use Rattle.promql_span.specs.Locations.{location_of};
 ghost use Rattle.promql_span.specs.declared.span.Span.{Span};
-ghost use Rattle.promql_programs.specs.Checking.{HasQuery, IsReported, IsSilent, IsWarned};
+ghost use Rattle.promql_programs.specs.Checking.{HasQuery, IsRejected, IsReported, IsSilent, IsWarned};
 ghost use Rattle.promql_programs.specs.CheckedInputs.{IsChecked, warning_text};
 ghost use Rattle.promql_programs.specs.Reports.{report_text};
 ghost use Rattle.promql_programs.specs.Sources.{IsLineIn, IsQueryIn};
@@ -35,6 +35,9 @@ pub const LIMIT_STATUS: u8 = 14;
 
 /// The status where the target reads the query otherwise.
 pub const OTHERWISE_STATUS: u8 = 23;
+
+/// The status where the target rejects the query.
+pub const REFUSED_STATUS: u8 = 24;
 
 /// What the message of an accepted query begins with.
 const WARNING: &str = "warning: ";
@@ -178,13 +181,12 @@ pub fn check<R: Read, E: Write>(
         × HasQuery source.now.is_file (IsWarned settings.now (string_bytes source.now.prefix) warning) (R.remaining reader.old.inner) (R.remaining reader.new.inner)
         × (errors.new.failed ≡ false
         → Appends (E.contents errors.old.inner) (E.contents errors.new.inner) warning)) }
-    ensures rejected { (result ≡ REJECTED_STATUS) ⊎ (result ≡ LIMIT_STATUS) ⊎ (result ≡ OTHERWISE_STATUS) → (report : Text)
+    ensures rejected { IsRejected result → (report : Text)
         × HasQuery source.now.is_file (IsReported settings.now (string_bytes source.now.prefix) result report) (R.remaining reader.old.inner) (R.remaining reader.new.inner)
         × (errors.new.failed ≡ false
         → Appends (E.contents errors.old.inner) (E.contents errors.new.inner) report) }
     // Each other status is that of an error.
-    ensures known { (result ≡ 0) ⊎ (result ≡ 1) ⊎ (result ≡ 2) ⊎ (result ≡ 3)
-        ⊎ (result ≡ REJECTED_STATUS) ⊎ (result ≡ LIMIT_STATUS) ⊎ (result ≡ OTHERWISE_STATUS) }
+    ensures known { (result ≡ 0) ⊎ (result ≡ 1) ⊎ (result ≡ 2) ⊎ (result ≡ 3) ⊎ IsRejected result }
 {
     match check_input(alloc, settings, source, reader) {
         Ok(Checked::Accepted) => 0,

@@ -50,7 +50,7 @@ pub fn check_settings_of(usual: bool, options: &[String]) -> Option<CheckSetting
     ensures { result ≡ spec.check_settings_of usual (map string_bytes options.now) }
 {
     let settings = CheckSettings {
-        limits: default_limits(),
+        limits: default_limits().for_check(),
         colors: usual,
     };
     settings_with(usual, settings, options)

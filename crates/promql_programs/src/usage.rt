@@ -55,18 +55,20 @@ pub const CHECK_HELP: &str =
 
 Reads a PromQL query from each FILE, or from standard input. Prints nothing where
 it is accepted; otherwise, to standard error, the line and the column of the error,
-its message, and the line of the query with a mark below. What Prometheus reads
-otherwise, such as an escape of a byte past ASCII, is rejected; with --target rules
-it is accepted, and such an escape with a warning. A line end at the end of the
-input is no part of the query. A query of more than --max-len bytes (32768), or with
-patterns that are together larger than --max-patterns (16000), is rejected before it
-is parsed. Messages have colours with --color always, none with --color never, and
-otherwise (auto) on a terminal where NO_COLOR is not set.
+its message, and the line of the query with a mark below. What the target reads
+otherwise is rejected, such as an escape of a byte past ASCII, and so is what it
+rejects, such as `or` between matchers. NAME is prometheus-3, which is the default,
+prometheus-2.42 or rules; with rules it is accepted, and such an escape with a
+warning. A line end at the end of the input is no part of the query. A query of more
+than --max-len bytes (32768), or with patterns that are together larger than
+--max-patterns (16000), is rejected before it is parsed. Messages have colours with
+--color always, none with --color never, and otherwise (auto) on a terminal where
+NO_COLOR is not set.
 
 Status: 0 the query is accepted, 4 it is rejected, 14 it is too long or its
-patterns are too large, 23 the target (prometheus-3) reads it otherwise, 1 out of
-memory, 2 a read failed, 3 the input is not UTF-8, 5 a write failed, 64 wrong
-arguments, 141 nobody reads what is written.
+patterns are too large, 23 the target reads it otherwise, 24 the target rejects it,
+1 out of memory, 2 a read failed, 3 the input is not UTF-8, 5 a write failed,
+64 wrong arguments, 141 nobody reads what is written.
 ";
 
 /// How a query is formatted, and the first line of the help of that.

@@ -14,12 +14,17 @@ use Rattle.promql_span.specs.declared.unexpected.Unexpected.{Unexpected}
 use Rattle.promql_span.specs.declared.limits.LimitFault.{LimitFault}
 use Rattle.promql_span.specs.declared.limits.LimitFault.TheVariants.{Memory, TooLong, PatternsTooLarge}
 use Rattle.promql_span.specs.declared.limits.Limits.{Limits}
+use Rattle.promql_span.specs.declared.differences.Printed.{Printed}
+use Rattle.promql_span.specs.declared.differences.Printed.TheVariants.{Nothing}
 use Rattle.promql_span.specs.declared.span.Span.{Span}
+use Rattle.promql_span.specs.declared.target.Target.{Target}
+use Rattle.promql_target.specs.Refusals.{first_refusal}
+use Rattle.promql_target.specs.declared.refusal.Refusal.{Refusal}
 use Rattle.promql_syntax.specs.ParseAnswers.{IsAnswerTo, plain_error_of}
 use Rattle.promql_syntax.specs.declared.parser.ParseError.TheVariants.{Syntax, TooDeep}
 use Rattle.promql_report.specs.declared.rejection.TheConstants.{PLAIN_SYNTAX_ERROR, TOO_MANY_LEVELS}
 use Rattle.promql_report.specs.declared.rejection.Reason.{Reason}
-use Rattle.promql_report.specs.declared.rejection.Reason.TheVariants.{Limit, Otherwise, Parse}
+use Rattle.promql_report.specs.declared.rejection.Reason.TheVariants.{Limit, Otherwise, Parse, Refused}
 use Rattle.promql_report.specs.declared.rejection.Rejection.{Rejection}
 
 -- the line of the query where the span begins, with its mark below
@@ -30,6 +35,7 @@ abbrev pub reason_number : Reason → ℕ
 reason_number (Parse e) = 4
 reason_number (Limit fault) = 14
 reason_number (Otherwise kind) = 23
+reason_number (Refused target kind) = 24
 
 -- a query that is too long is rejected at its end
 abbrev pub limit_place : Text → LimitFault → Option Span
@@ -37,12 +43,24 @@ limit_place query Memory = None
 limit_place query (TooLong len most) = Some (end_of query)
 limit_place query (PatternsTooLarge size most place) = Some place
 
--- the query is not within its limits, or it is and the parser rejects it, or its target reads this part otherwise; and that is the place
+-- the first part that the target rejects, where the query is checked
+abbrev pub refusal_where : Printed → Target → Text → Option Refusal
+refusal_where Nothing target query = first_refusal target query
+refusal_where printed target query = None
+
+abbrev pub refusal : Limits → Text → Option Refusal
+refusal limits query = refusal_where limits.printed limits.target query
+
+-- the query is not within its limits, or it is and the parser rejects it, or its target reads this part otherwise, or it is checked and its
+-- target rejects this part; and that is the place
 -- (`IsPlaceOf` gives the error Memory no part)
 abbrev pub IsReason : Limits → Text → Reason → Span → Type 0
 IsReason limits query (Limit fault) span = IsLimitFault query limits fault × (limit_place query fault ≡ Some span)
 IsReason limits query (Otherwise kind) span =
     IsWithin query limits × ((t : Tree) × IsAnswerTo query (Ok t)) × (difference limits query ≡ Some (record { kind = kind; span = span }))
+IsReason limits query (Refused target kind) span =
+    IsWithin query limits × ((t : Tree) × IsAnswerTo query (Ok t)) × (difference limits query ≡ None)
+    × (target ≡ limits.target) × (refusal limits query ≡ Some (record { kind = kind; span = span }))
 IsReason limits query (Parse e) span = IsWithin query limits × IsAnswerTo query (Err (plain_error_of e)) × IsPlaceOf query e (Some span)
 
 -- this is why the query is rejected, at this part of it, and where that begins
@@ -65,9 +83,9 @@ abbrev pub IsMessage : Text → Rejection → Text → Type 0
 IsMessage query r message =
     (told : Option Unexpected) × IsTold query r told × MatchOption told (IsPlainMessage r.reason message) (λ u. message ≡ unexpected_text u)
 
--- the query is within its limits, its target reads no part of it otherwise, and it has this tree
+-- the query is within its limits, its target reads no part of it otherwise, and rejects none where it is checked; and it has this tree
 abbrev pub IsRead : Limits → Text → Tree → Type 0
-IsRead limits query t = (IsWithin query limits × (difference limits query ≡ None)) × IsAnswerTo query (Ok t)
+IsRead limits query t = (IsWithin query limits × (difference limits query ≡ None) × (refusal limits query ≡ None)) × IsAnswerTo query (Ok t)
 
 -- it has a tree
 abbrev pub IsParsed : Limits → Text → Type 0

@@ -1,21 +1,24 @@
 //! The tree of a query, or why and where it is rejected.
 
-ghost use Rattle.std.specs.Prelude.{◌≡◌, IfOk, MatchResult, Ok, string_bytes};
+ghost use Rattle.std.specs.Prelude.{◌≡◌, IfOk, MatchResult, None, Ok, string_bytes};
 ghost use Rattle.std.specs.Bool.{Decides};
 ghost use Rattle.promql_ast.specs.View.{tree_of};
 ghost use Rattle.promql_span.specs.Locations.{location_of};
 ghost use Rattle.promql_span.specs.QueryLimits.{IsWithin};
+ghost use Rattle.promql_span.specs.Targets.{difference};
 ghost use Rattle.promql_syntax.specs.ParseAnswers.{IsAnswerTo};
 ghost use Rattle.promql_syntax.specs.declared.parser.ParseError.TheVariants as parse_errors;
 ghost use Rattle.promql_report.specs.declared.rejection.Reason.TheVariants as reasons;
+ghost use Rattle.promql_report.specs.Rejecting as spec;
 ghost use Rattle.promql_report.specs.Rejecting.{IsMessage, IsPlainMessage, IsRead, IsRejection, IsTold, limit_place, reason_number};
 
 use promql_ast::{Expr, drop_expr};
 use promql_span::diagnosis::{Diagnosis, diagnose};
 use promql_span::limits::{LimitFault, Limits, check_limits};
 use promql_span::unexpected::{Unexpected, unexpected_at};
-use promql_span::{Difference, DifferenceKind, Location, Span, end_of_text};
+use promql_span::{Difference, DifferenceKind, Location, Printed, Span, Target, end_of_text};
 use promql_syntax::parser::ParseError;
+use promql_target::{Refusal, RefusalKind, first_refusal};
 use std::alloc::{AllocError, Global};
 use thiserror::Error;
 
@@ -31,6 +34,9 @@ pub enum Reason {
     /// It is read, and its target reads it otherwise.
     #[error("Prometheus reads this otherwise: {0}")]
     Otherwise(DifferenceKind),
+    /// It is checked, and this target rejects it.
+    #[error("{0} rejects this: {1}")]
+    Refused(Target, RefusalKind),
 }
 
 impl Reason {
@@ -42,6 +48,7 @@ impl Reason {
             Reason::Parse(_) => 4,
             Reason::Limit(_) => 14,
             Reason::Otherwise(_) => 23,
+            Reason::Refused(_, _) => 24,
         }
     }
 
@@ -137,7 +144,7 @@ impl Rejection {
 }
 
 /// The tree of a query, or why and where it is rejected. A query that is not within its limits is not parsed. One that its target
-/// reads otherwise is rejected at the first part that it does.
+/// reads otherwise is rejected at the first part that it does, and one that is checked, where its target rejects it.
 ///
 /// # Errors
 ///
@@ -174,7 +181,7 @@ fn for_target(
     ensures { IfOk result (λ r. MatchResult r (λ e. IsRead limits.now query.now (tree_of e)) (IsRejection limits.now query.now)) }
 {
     match limits.difference(alloc, query) {
-        Ok(None) => Ok(Ok(expr)),
+        Ok(None) => Ok(unless_refused(limits, query, expr)),
         Ok(Some(Difference { kind, span })) => {
             drop_expr(expr);
             Ok(Err(Rejection::new(query, Reason::Otherwise(kind), span)))
@@ -183,6 +190,33 @@ fn for_target(
             drop_expr(expr);
             Err(error)
         }
+    }
+}
+
+/// The tree of a query that its target reads as it is printed, or the first part that the target rejects where it is checked.
+fn unless_refused(limits: &Limits, query: &str, expr: Expr) -> Result<Expr, Rejection>
+    requires within { IsWithin query.now limits.now }
+    requires answer { IsAnswerTo query.now (Ok (tree_of expr)) }
+    requires same { difference limits.now query.now ≡ None }
+    ensures { MatchResult result (λ e. IsRead limits.now query.now (tree_of e)) (IsRejection limits.now query.now) }
+{
+    match refusal(limits, query) {
+        Some(Refusal { kind, span }) => {
+            drop_expr(expr);
+            let reason = Reason::Refused(limits.target, kind);
+            Err(Rejection::new(query, reason, span))
+        }
+        None => Ok(expr),
+    }
+}
+
+/// The first part of a query that its target rejects, where it is checked.
+fn refusal(limits: &Limits, query: &str) -> Option<Refusal>
+    ensures { result ≡ spec.refusal limits.now query.now }
+{
+    match limits.printed {
+        Printed::Nothing => first_refusal(limits.target, query),
+        Printed::Tree | Printed::Layout | Printed::SortedLayout => None,
     }
 }
 

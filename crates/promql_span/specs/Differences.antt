@@ -17,7 +17,7 @@ use Rattle.promql_span.specs.declared.differences.Difference.{Difference}
 use Rattle.promql_span.specs.declared.differences.DifferenceKind.{DifferenceKind}
 use Rattle.promql_span.specs.declared.differences.DifferenceKind.TheVariants as kind
 use Rattle.promql_span.specs.declared.differences.Printed.{Printed}
-use Rattle.promql_span.specs.declared.differences.Printed.TheVariants.{Layout, SortedLayout, Tree}
+use Rattle.promql_span.specs.declared.differences.Printed.TheVariants.{Layout, Nothing, SortedLayout, Tree}
 use Rattle.promql_span.specs.declared.span.Span.{Span}
 
 -- tokens, each its id and its text
@@ -156,6 +156,7 @@ is_of Tree k = true
 is_of Layout kind.RepeatedLabel = false
 is_of Layout k = is_of_layout k
 is_of SortedLayout k = is_of_layout k
+is_of Nothing k = true
 
 abbrev pub counted : Printed → Option DifferenceKind → Option DifferenceKind
 counted printed None = None

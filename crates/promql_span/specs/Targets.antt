@@ -6,7 +6,7 @@ use Rattle.promql_span.specs.ByteEscapes.{byte_escape}
 use Rattle.promql_span.specs.Differences.{first_difference}
 use Rattle.promql_span.specs.declared.differences.Difference.{Difference}
 use Rattle.promql_span.specs.declared.differences.Printed.{Printed}
-use Rattle.promql_span.specs.declared.differences.Printed.TheVariants.{Layout, SortedLayout}
+use Rattle.promql_span.specs.declared.differences.Printed.TheVariants.{Layout, Nothing, SortedLayout}
 use Rattle.promql_span.specs.declared.limits.Limits.{Limits}
 use Rattle.promql_span.specs.declared.span.Span.{Span}
 use Rattle.promql_span.specs.declared.target.Target.{Target}
@@ -34,6 +34,10 @@ matcher_difference target text = byte_escape text
 -- limits for what the rules alone read
 abbrev pub for_rules : Limits → Limits
 for_rules limits = record limits { target = Rules }
+
+-- limits for a query that is checked
+abbrev pub for_check : Limits → Limits
+for_check limits = record limits { printed = Nothing }
 
 -- limits for a layout, which may have its matchers in order
 abbrev pub for_layout : Bool → Limits → Limits

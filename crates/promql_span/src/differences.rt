@@ -63,6 +63,8 @@ pub enum Printed {
     Layout,
     /// As a layout whose matchers are in order.
     SortedLayout,
+    /// Not at all: it is checked, whether its target takes it as it is written, and reads it as the tree is printed.
+    Nothing,
 }
 
 impl DifferenceKind {
@@ -71,7 +73,7 @@ impl DifferenceKind {
         ensures { result ≡ spec.is_of printed self }
     {
         match printed {
-            Printed::Tree => true,
+            Printed::Tree | Printed::Nothing => true,
             Printed::Layout => self.is_of_layout() && !matches!(self, DifferenceKind::RepeatedLabel),
             Printed::SortedLayout => self.is_of_layout(),
         }

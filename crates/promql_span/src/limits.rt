@@ -6,7 +6,7 @@ ghost use Rattle.std.specs.Prelude.{◌<◌, ◌≤◌};
 ghost use Rattle.promql_span.specs.MeasuredTokens.{AreMeasured};
 ghost use Rattle.promql_span.specs.PlacedTokens.{first_span, placed_tokens};
 ghost use Rattle.promql_span.specs.QueryLimits as spec;
-ghost use Rattle.promql_span.specs.Targets.{for_layout, for_rules};
+ghost use Rattle.promql_span.specs.Targets.{for_check, for_layout, for_rules};
 
 use crate::differences::Printed;
 use crate::placed::PlacedTokens;
@@ -78,6 +78,16 @@ impl Limits {
     {
         Limits {
             target: Target::Rules,
+            ..*self
+        }
+    }
+
+    /// The same where the query is checked.
+    pub fn for_check(&self) -> Limits
+        ensures { result ≡ for_check self.now }
+    {
+        Limits {
+            printed: Printed::Nothing,
             ..*self
         }
     }

@@ -8,15 +8,19 @@ use crate::differences::{Difference, first_difference};
 use crate::limits::Limits;
 use crate::span::Span;
 use std::alloc::{AllocError, Global};
+use thiserror::Error;
 
 /// What reads the text of a query after it was printed.
-#[derive(Clone, Copy, Debug, PartialEq, Eq)]
+#[derive(Clone, Copy, Debug, PartialEq, Eq, Error)]
 pub enum Target {
     /// Prometheus 2.42.
+    #[error("Prometheus 2.42")]
     Prometheus2,
     /// Prometheus 3.
+    #[error("Prometheus 3")]
     Prometheus3,
     /// The rules of this library.
+    #[error("these rules")]
     Rules,
 }
 

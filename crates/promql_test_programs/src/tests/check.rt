@@ -20,7 +20,7 @@ type Row = (
 );
 
 /// Queries that are accepted, and ones that are not.
-const QUERIES: [Row; 6] = [
+const QUERIES: [Row; 7] = [
     (&["promql", "check"], b"1 + (foo - 2)", 0, "", ""),
     (&["", "check"], b"foo\n", 0, "", ""),
     (
@@ -46,10 +46,57 @@ const QUERIES: [Row; 6] = [
     ),
     (
         &["", "check"],
+        b"1 +\r\n",
+        4,
+        "",
+        "1:4: unexpected end of query, expected expression, \"bool\", \"ignoring\", \"on\", \"fill\", \"fill_left\" or \"fill_right\"\n1 +\n   ^\n",
+    ),
+    (
+        &["", "check"],
         b"a\n+ rate(\n  foo)\n\n",
         4,
         "",
         "3:3: expected type matrix in call to function 'rate', got vector\n  foo)\n  ^~~\n",
+    ),
+];
+
+/// Queries that a target rejects.
+const REFUSED: [Row; 6] = [
+    (
+        &["", "check"],
+        b"a{b=\"c\" or d=\"e\"}",
+        24,
+        "",
+        "1:9: Prometheus 3 rejects this: it knows no `or` between matchers\na{b=\"c\" or d=\"e\"}\n        ^~\n",
+    ),
+    (
+        &["", "check", "--target=rules"],
+        b"a{b=\"c\" or d=\"e\"}",
+        0,
+        "",
+        "",
+    ),
+    (&["", "check"], b"a[300]", 0, "", ""),
+    (
+        &["", "check", "--target", "prometheus-2.42"],
+        b"a[300]\n",
+        24,
+        "",
+        "1:3: Prometheus 2.42 rejects this: a length of time without a unit is of a later version; write 300s for 300\na[300]\n  ^~~\n",
+    ),
+    (
+        &["", "check", "--target", "prometheus-2.42"],
+        b"a[300] + -0",
+        23,
+        "",
+        "1:10: Prometheus reads this otherwise: the number is negative zero there, and zero here\na[300] + -0\n         ^\n",
+    ),
+    (
+        &["", "check", "--target", "prometheus-2.42"],
+        b"a[300] + (",
+        4,
+        "",
+        "1:10: unclosed left parenthesis\na[300] + (\n         ^\n",
     ),
 ];
 
@@ -225,6 +272,11 @@ fn check_rows(rt: &impl Abort, alloc: Global, rows: &[Row]) {
 #[test]
 fn queries_are_reported(rt: HostRuntime) {
     check_rows(&rt, rt.alloc(), &QUERIES);
+}
+
+#[test]
+fn targets_reject_queries(rt: HostRuntime) {
+    check_rows(&rt, rt.alloc(), &REFUSED);
 }
 
 #[test]

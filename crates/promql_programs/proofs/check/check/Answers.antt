@@ -2,7 +2,7 @@ use Rattle.std.proofs.Common.{inr, sym, ◌∙◌, subst, ⊎_elim}
 use Rattle.promql_run.specs.StepErrors.{IsInputError}
 use Rattle.promql_run.proofs.Statuses.{four_is_parse, none_is_zero}
 use Rattle.promql_programs.proofs.CheckAnswers.{warned, written_unless_failed}
-use Rattle.promql_report.proofs.LimitStatus.{not_fourteen, not_twenty_three}
+use Rattle.promql_report.proofs.LimitStatus.{not_fourteen, not_twenty_four, not_twenty_three}
 use Rattle.promql_programs.proofs.check.check.Goals as goal
 
 pub returns-in-Ok-Warned-clause-accepted : goal.returns-in-Ok-Warned-clause-accepted
@@ -23,5 +23,7 @@ returns-in-Err-clause-rejected g c = λ status. ⊎_elim
     absurd (subst IsInputError found.1 c.in-Err.ensures.errors))
     (⊎_elim
     (λ fourteen. absurd (not_fourteen c.in-Err.error (sym c.number.ensures ∙ fourteen)))
-    (λ more. absurd (not_twenty_three c.in-Err.error (sym c.number.ensures ∙ more))))
+    (⊎_elim
+    (λ twenty_three. absurd (not_twenty_three c.in-Err.error (sym c.number.ensures ∙ twenty_three)))
+    (λ twenty_four. absurd (not_twenty_four c.in-Err.error (sym c.number.ensures ∙ twenty_four)))))
     status
