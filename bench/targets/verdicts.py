@@ -271,6 +271,12 @@ HERE: Dict[str, Callable[[Query], bool]] = {
 }
 
 
+# The kinds of which the library does not tell that this server rejects them, or not of all.
+NOT_TOLD = frozenset(
+    ("form feed", "plus before a string or a range", "number past a double", "pattern that Go rejects", "bytes of a pattern")
+)
+
+
 # ---- what Prometheus 2.42 accepts, and the library rejects
 
 
@@ -407,6 +413,20 @@ def rejected(query: str) -> Optional[Rejected]:
     return None
 
 
+def is_told(query: str) -> Optional[bool]:
+    """Whether the library says that Prometheus 2.42 rejects a query that its rules accept; None where it says that it is read otherwise."""
+    promql.set_target("prometheus-2.42")
+    try:
+        promql.check(query)
+    except promql.RefusedError:
+        return True
+    except promql.ReadOtherwiseError:
+        return None
+    finally:
+        promql.set_target("rules")
+    return False
+
+
 class Comparison:
     """Compares verdicts, and counts those that differ by their kinds."""
 
@@ -424,6 +444,7 @@ class Comparison:
             tokens = Query(query)
             found = [name for name, is_of in HERE.items() if is_of(tokens)]
             self.checks.check(bool(found) == bool(there), f"accepted here: {query!r} {found} {there}")
+            self._look_at_refusal(query, found, there)
             if there is None:
                 self._look_at_line(query)
         else:
@@ -431,6 +452,14 @@ class Comparison:
             self.checks.check(bool(found) or there is not None, f"accepted there: {query!r} {here.reason} {here.part!r}")
         for name in found:
             self.kinds[name].append(query)
+
+    def _look_at_refusal(self, query: str, kinds: Sequence[str], there: Optional[str]) -> None:
+        """Whether the library tells what the server rejects, and nothing else."""
+        told = is_told(query)
+        self.counts[{None: "read otherwise", False: "not told", True: "told"}[told]] += 1
+        if told is not None:
+            self.checks.check(not told or bool(there), f"told, and accepted there: {query!r}")
+            self.checks.check(told or NOT_TOLD.issuperset(kinds), f"not told: {query!r} {kinds}")
 
     def _look_at_line(self, query: str) -> None:
         """Whether the server takes what is printed, too. (An escape of U+FFFD prints as the character itself.)"""

@@ -330,7 +330,7 @@ void promql_set_max_output(size_t bytes)
 
 uint32_t promql_set_target(uint32_t number)
 {
-    if (number > PROMQL_RULES)
+    if (number > PROMQL_PROMETHEUS_2)
         return PROMQL_UNKNOWN_MODE;
     target = number;
     return PROMQL_OK;

@@ -30,6 +30,8 @@ var (
 	// ErrReadOtherwise says of a *QueryError that the target reads a part of the query otherwise (SetTarget), and of any other error that it
 	// reads a part of the matcher so, which such an error says.
 	ErrReadOtherwise = errors.New("the target reads it otherwise")
+	// ErrRefused says of a *QueryError of Check and Explain that the target rejects a part of the query (SetTarget).
+	ErrRefused = errors.New("the target rejects it")
 	// ErrWideLayout says that the width of a layout for people is above 65,535. An error that is this one has the number.
 	ErrWideLayout = errors.New("the layout is too wide")
 	// ErrLevel says that the level of a layout is above 512.
@@ -84,7 +86,8 @@ type QueryError struct {
 	cause   error
 }
 
-// Unwrap returns ErrTooLarge where the query is not within its limits, ErrReadOtherwise where the target reads it otherwise, and else nil.
+// Unwrap returns ErrTooLarge where the query is not within its limits, ErrReadOtherwise where the target reads it otherwise, ErrRefused
+// where the target rejects it, and else nil.
 func (e *QueryError) Unwrap() error {
 	return e.cause
 }
@@ -361,22 +364,26 @@ const (
 	Prometheus3 Target = C.PROMQL_PROMETHEUS_3
 	// Rules are the rules of this library alone.
 	Rules Target = C.PROMQL_RULES
+	// Prometheus2 is Prometheus 2.42, which also rejects what came later.
+	Prometheus2 Target = C.PROMQL_PROMETHEUS_2
 )
 
-// ParseTarget returns the target of this name: "prometheus-3" or "rules". The error is ErrUnknownTarget where it is another.
+// ParseTarget returns the target of this name: "prometheus-3", "prometheus-2.42" or "rules". The error is ErrUnknownTarget where it is another.
 func ParseTarget(name string) (Target, error) {
 	switch name {
 	case "prometheus-3":
 		return Prometheus3, nil
+	case "prometheus-2.42":
+		return Prometheus2, nil
 	case "rules":
 		return Rules, nil
 	}
-	return 0, explained{fmt.Sprintf("no target is called %q: prometheus-3, rules", name), ErrUnknownTarget}
+	return 0, explained{fmt.Sprintf("no target is called %q: prometheus-3, prometheus-2.42, rules", name), ErrUnknownTarget}
 }
 
 // SetTarget sets what reads each later query that Enforce, RenameMetric, RenameLabel and FormatQuery return and Check checks, in this
 // process: Prometheus3 before the first call. A query that it reads otherwise gives a *QueryError that is ErrReadOtherwise, and a matcher an
-// error that is it.
+// error that is it. A query that it rejects gives Check one that is ErrRefused.
 func SetTarget(target Target) error {
 	if C.promql_set_target(C.uint32_t(target)) != C.PROMQL_OK {
 		return explained{fmt.Sprintf("no target has the number %d", target), ErrUnknownTarget}
@@ -414,7 +421,7 @@ func textOrError(query, text string, result C.struct_promql_result) (string, err
 		return "", ErrNotUTF8
 	case C.PROMQL_UNKNOWN_MODE:
 		return "", ErrLevel
-	case C.PROMQL_REJECTED, C.PROMQL_TOO_LARGE, C.PROMQL_READ_OTHERWISE:
+	case C.PROMQL_REJECTED, C.PROMQL_TOO_LARGE, C.PROMQL_READ_OTHERWISE, C.PROMQL_REFUSED:
 		if result.line == 0 {
 			return "", explained{text, ErrReadOtherwise}
 		}
@@ -424,6 +431,8 @@ func textOrError(query, text string, result C.struct_promql_result) (string, err
 			cause = ErrTooLarge
 		case C.PROMQL_READ_OTHERWISE:
 			cause = ErrReadOtherwise
+		case C.PROMQL_REFUSED:
+			cause = ErrRefused
 		}
 		return "", &QueryError{
 			Message: text,

@@ -43,6 +43,7 @@ __all__ = [
     "Part",
     "QueryError",
     "ReadOtherwiseError",
+    "RefusedError",
     "RenameError",
     "SmallStackError",
     "Token",
@@ -86,7 +87,7 @@ _MAX_LIMIT = 2**64 - 1
 # The greatest width and indentation of a layout for people.
 MAX_LINE = 65_535
 _MAX_INDENT = 16
-TARGETS = {"prometheus-3": Target.PROMETHEUS_3, "rules": Target.RULES}
+TARGETS = {"prometheus-3": Target.PROMETHEUS_3, "prometheus-2.42": Target.PROMETHEUS_2, "rules": Target.RULES}
 
 
 class Error(ValueError):
@@ -208,10 +209,15 @@ class ReadOtherwiseError(QueryError):
     """The target reads a part of the query otherwise (`set_target`)."""
 
 
+class RefusedError(QueryError):
+    """The target of a query that is checked rejects a part of it (`set_target`)."""
+
+
 def set_target(name: str) -> None:
     """Sets what reads each later query that `enforce`, `rename_metric`, `rename_label` and `format` return and `check` checks, in this
-    process: `"prometheus-3"`, as before the first call, or `"rules"`, the rules of this library alone (docs/reference/programs.md,
-    "Targets"). A query that it reads otherwise raises ReadOtherwiseError. Raises ValueError where there is no such target."""
+    process: `"prometheus-3"`, as before the first call, `"prometheus-2.42"`, or `"rules"`, the rules of this library alone
+    (docs/reference/targets.md). A query that it reads otherwise raises ReadOtherwiseError, and one that it rejects makes `check` raise
+    RefusedError. Raises ValueError where there is no such target."""
     if name not in TARGETS:
         raise ValueError(f"no target is called {name!r}: {', '.join(TARGETS)}")
     _caller.set_target(TARGETS[name])
@@ -477,6 +483,7 @@ _PLACED_ERRORS: Dict[int, Type[QueryError]] = {
     Status.REJECTED: QueryError,
     Status.TOO_LARGE: TooLargeError,
     Status.READ_OTHERWISE: ReadOtherwiseError,
+    Status.REFUSED: RefusedError,
 }
 
 # The errors without a place.

@@ -29,11 +29,13 @@ class Status(IntEnum):
     METRIC_LABEL = 21
     CLASH = 22
     READ_OTHERWISE = 23
+    REFUSED = 24
 
 
 class Target(IntEnum):
     PROMETHEUS_3 = 0
     RULES = 1
+    PROMETHEUS_2 = 2
 
 
 class Named(IntEnum):

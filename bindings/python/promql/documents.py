@@ -32,6 +32,7 @@ class Status(IntEnum):
     FOUND = 1
     NOT_FORMATTED = 19
     SMALL_STACK = Answered.SMALL_STACK
+    REFUSED = Answered.REFUSED
     READ_OTHERWISE = Answered.READ_OTHERWISE
     TOO_LARGE = Answered.TOO_LARGE
     LARGE_ENFORCED = Answered.LARGE_ENFORCED

@@ -65,6 +65,8 @@ pub enum Error {
     TooLarge(Rejection),
     /// The target reads a part of the query otherwise ([`set_target`]).
     ReadOtherwise(Rejection),
+    /// The target rejects a part of the query ([`set_target`]). Of [`check`] alone.
+    Refused(Rejection),
     /// The target reads a part of the matcher otherwise ([`set_target`]): which.
     MatcherReadOtherwise(String),
     /// The level of a layout is above 512.
@@ -156,7 +158,10 @@ impl fmt::Display for Error {
     fn fmt(&self, f: &mut fmt::Formatter<'_>) -> fmt::Result {
         match self {
             Error::OutOfMemory => f.write_str("out of memory"),
-            Error::Rejected(rejection) | Error::TooLarge(rejection) | Error::ReadOtherwise(rejection) => rejection.fmt(f),
+            Error::Rejected(rejection)
+            | Error::TooLarge(rejection)
+            | Error::ReadOtherwise(rejection)
+            | Error::Refused(rejection) => rejection.fmt(f),
             Error::LevelTooHigh => f.write_str("level is above 512"),
             Error::NumberTooWide => f.write_str("number too wide for JSON"),
             Error::NotAMatcher => f.write_str(NOT_A_MATCHER),
@@ -368,15 +373,18 @@ pub enum Target {
     Prometheus3,
     /// The rules of this library alone.
     Rules,
+    /// Prometheus 2.42, which also rejects what came later.
+    Prometheus2,
 }
 
 /// Sets what reads each later query that [`enforce`], [`rename_metric`], [`rename_label`] and [`format_query`] return and [`check`] checks, in
 /// this process: [`Target::Prometheus3`] before the first call. What it reads otherwise gives [`Error::ReadOtherwise`], or of a matcher
-/// [`Error::MatcherReadOtherwise`].
+/// [`Error::MatcherReadOtherwise`]. What it rejects gives [`Error::Refused`], of [`check`].
 pub fn set_target(target: Target) {
     library::set_target(match target {
         Target::Prometheus3 => 0,
         Target::Rules => 1,
+        Target::Prometheus2 => 2,
     });
 }
 
@@ -407,6 +415,7 @@ fn text_of((text, answer): (String, Answer)) -> Result<String, Error> {
         // (of a matcher it has no place)
         library::READ_OTHERWISE if answer.line == 0 => Err(Error::MatcherReadOtherwise(text)),
         library::READ_OTHERWISE => Err(Error::ReadOtherwise(rejection_of(text, &answer))),
+        library::REFUSED => Err(Error::Refused(rejection_of(text, &answer))),
         library::UNKNOWN_MODE => Err(Error::LevelTooHigh),
         library::NUMBER_TOO_WIDE => Err(Error::NumberTooWide),
         library::BAD_MATCHER if text == NOT_A_MATCHER => Err(Error::NotAMatcher),

@@ -31,6 +31,7 @@ pub const NOT_A_NAME: u32 = 20;
 pub const METRIC_LABEL: u32 = 21;
 pub const CLASH: u32 = 22;
 pub const READ_OTHERWISE: u32 = 23;
+pub const REFUSED: u32 = 24;
 
 /// `enum promql_named`.
 #[derive(Clone, Copy)]
