@@ -3,8 +3,8 @@
 ghost use Rattle.std.specs.Prelude.{◌≡◌};
 ghost use Rattle.promql_c.specs.CallLimits.{limits_of};
 
-use promql_span::{Printed, Target};
 use promql_span::limits::Limits;
+use promql_span::{Printed, Target};
 
 /// `Limits` as C passes them, with the number of their target.
 #[repr(C)]

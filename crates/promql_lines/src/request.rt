@@ -73,7 +73,11 @@ pub(crate) fn number_in(default: u64, most: u64, member: Option<&Value>) -> Opti
 }
 
 /// The format with this level and this width. Only a layout has them.
-pub(crate) fn format_with(level: Option<&Value>, width: Option<&Value>, format: Format) -> Option<Format>
+pub(crate) fn format_with(
+    level: Option<&Value>,
+    width: Option<&Value>,
+    format: Format,
+) -> Option<Format>
     ensures { result ≡ spec.format_with (option_map (λ v. view v.now) level.entry)
         (option_map (λ v. view v.now) width.entry) format }
 {

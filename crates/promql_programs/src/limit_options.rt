@@ -3,8 +3,8 @@
 ghost use Rattle.std.specs.Prelude.{◌≡◌, map, string_bytes};
 ghost use Rattle.promql_programs.specs.LimitOptions as spec;
 
-use promql_span::{Printed, Target};
 use promql_span::limits::{Limits, MAX_LEN, MAX_OUTPUT, MAX_PATTERN_SIZE};
+use promql_span::{Printed, Target};
 
 /// The limits where no option changes them.
 pub fn default_limits() -> Limits

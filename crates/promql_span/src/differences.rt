@@ -74,7 +74,8 @@ impl DifferenceKind {
     {
         match printed {
             Printed::Tree | Printed::Nothing => true,
-            Printed::Layout => self.is_of_layout() && !matches!(self, DifferenceKind::RepeatedLabel),
+            Printed::Layout => self.is_of_layout()
+                && !matches!(self, DifferenceKind::RepeatedLabel),
             Printed::SortedLayout => self.is_of_layout(),
         }
     }

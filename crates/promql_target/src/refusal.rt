@@ -12,7 +12,7 @@ use promql_token::TokenId;
 use promql_token::cursor::Cursor;
 use promql_token::ids::{
     T_ADD, T_ANCHORED, T_ATAN2, T_BY, T_DURATION, T_EQL, T_EQL_REGEX, T_FILL, T_FILL_LEFT,
-    T_FILL_RIGHT, T_LEFT_BRACE, T_LEFT_BRACKET, T_LEFT_PAREN, T_LIMITK, T_LIMIT_RATIO, T_LOR,
+    T_FILL_RIGHT, T_LEFT_BRACE, T_LEFT_BRACKET, T_LEFT_PAREN, T_LIMIT_RATIO, T_LIMITK, T_LOR,
     T_NEQ, T_NEQ_REGEX, T_NUMBER, T_RIGHT_BRACE, T_RIGHT_PAREN, T_SMOOTHED, T_STRING, T_SUB,
     T_WITHOUT,
 };
@@ -284,9 +284,7 @@ fn word_kind(place: Place, id: TokenId, word: &str, rest: Cursor<'_>) -> Option<
         Area::Braces => {
             (id == T_LOR && place.before == T_STRING).then_some(RefusalKind::OrGroup)
         }
-        Area::Clause | Area::Matching => {
-            (id == T_WITHOUT).then_some(RefusalKind::LabelWithout)
-        }
+        Area::Clause | Area::Matching => { (id == T_WITHOUT).then_some(RefusalKind::LabelWithout) }
         Area::Brackets => None,
         Area::Open if place.is_after_operand() => {
             matches!(id, T_SMOOTHED | T_ANCHORED).then_some(RefusalKind::RangeMode)

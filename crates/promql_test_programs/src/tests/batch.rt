@@ -9,8 +9,8 @@ use promql_programs::usage::BATCH_HELP;
 use promql_run::ended::Ended;
 use promql_run::format::Format;
 use promql_run::run::RunError;
-use promql_span::{Printed, Target};
 use promql_span::limits::{Limits, MAX_LEN, MAX_OUTPUT, MAX_PATTERN_SIZE};
+use promql_span::{Printed, Target};
 use std::alloc::Global;
 use std::io;
 use std::io::BufReader;
@@ -63,7 +63,8 @@ fn ends_of_the_input(rt: HostRuntime) {
     check_batch(&rt, alloc, b"", b"", true);
     check_batch(&rt, alloc, b"\"1\"", b"{\"ok\":\"1\"}\n", true);
     check_batch(&rt, alloc, b"\"1\"\n", b"{\"ok\":\"1\"}\n", true);
-    let empty = b"{\"code\":7,\"error\":\"line is not a request: it is not JSON, or nested too deeply\"}\n";
+    let empty =
+        b"{\"code\":7,\"error\":\"line is not a request: it is not JSON, or nested too deeply\"}\n";
     check_batch(&rt, alloc, b"\n", empty, false);
 }
 
@@ -93,7 +94,8 @@ fn a_reader_that_fails(rt: HostRuntime) {
 #[test]
 fn a_writer_that_fails(rt: HostRuntime) {
     let alloc = rt.alloc();
-    let want = b"{\"ok\":\"1\"}\n{\"code\":7,\"error\":\"line is not a request: it is neither a text nor an object with a text \\\"query\\\"\"}\n";
+    let want =
+        b"{\"ok\":\"1\"}\n{\"code\":7,\"error\":\"line is not a request: it is neither a text nor an object with a text \\\"query\\\"\"}\n";
     // 10 bytes and 100 are 38 writes, their line feeds two, and the flushes before the end is read and after it two more.
     let all: usize = 42;
     for fails_at in 1..=43 {

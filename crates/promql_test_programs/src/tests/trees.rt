@@ -5,8 +5,8 @@ use promql_lines::query_error::QueryError;
 use promql_lines::read_form::MAX_TREE;
 use promql_lines::tree_text::tree_text;
 use promql_run::format::{Format, Layout};
-use promql_span::{Printed, Target};
 use promql_span::limits::Limits;
+use promql_span::{Printed, Target};
 use std::alloc::{AllocError, Global};
 
 /// The form of `a + on (b) sum(c)`.
