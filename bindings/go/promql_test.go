@@ -324,6 +324,29 @@ func TestLongOutput(t *testing.T) {
 	}
 }
 
+func TestRefusals(t *testing.T) {
+	defer func() { _ = promql.SetTarget(promql.Prometheus3) }()
+	for name, query := range map[string]string{"prometheus-3": `a{b="c" or d="e"}`, "prometheus-2.42": "a[300]", "rules": ""} {
+		target, err := promql.ParseTarget(name)
+		if err != nil || promql.SetTarget(target) != nil {
+			t.Fatal(name, err)
+		}
+		var rejected *promql.QueryError
+		if err := promql.Check(query); query != "" && (!errors.Is(err, promql.ErrRefused) || !errors.As(err, &rejected) || rejected.Line != 1) {
+			t.Errorf("%s: %v", name, err)
+		}
+		if _, err := promql.Canonical(query); query != "" && err != nil {
+			t.Errorf("%s: %v", name, err)
+		}
+	}
+	if err := promql.Check(`a{b="c" or d="e"}`); promql.SetTarget(promql.Rules) != nil || err != nil && !errors.Is(err, promql.ErrRefused) {
+		t.Error(err)
+	}
+	if err := promql.Check(`a{b="c" or d="e"} + b[300]`); err != nil {
+		t.Error(err)
+	}
+}
+
 func TestTargets(t *testing.T) {
 	query := `a{b="\xc3\xa9"}`
 	calls := map[string]func() (string, error){
@@ -342,8 +365,8 @@ func TestTargets(t *testing.T) {
 	if _, err := promql.Enforce("a", `b="\xc3"`); !errors.Is(err, promql.ErrReadOtherwise) || errors.As(err, &rejected) {
 		t.Error(err)
 	}
-	if err := promql.SetTarget(2); err == nil {
-		t.Error("a target with the number 2")
+	if err := promql.SetTarget(3); err == nil {
+		t.Error("a target with the number 3")
 	}
 	if err := promql.SetTarget(promql.Rules); err != nil {
 		t.Fatal(err)

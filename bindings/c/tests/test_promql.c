@@ -344,7 +344,7 @@ static void test_targets(void)
     CHECK(lays_out(query, 80, 2, PROMQL_READ_OTHERWISE, why));
     CHECK(gives(in_mode(PROMQL_LINE, 0, 0, query), PROMQL_OK, line));
     CHECK(gives(of_query(CALL_CANONICAL, query), PROMQL_OK, line));
-    CHECK(promql_set_target(2) == PROMQL_UNKNOWN_MODE);
+    CHECK(promql_set_target(3) == PROMQL_UNKNOWN_MODE);
     CHECK(gives(of_query(CALL_CHECK, query), PROMQL_READ_OTHERWISE, why));
     CHECK(promql_set_target(PROMQL_RULES) == PROMQL_OK);
     CHECK(gives(of_query(CALL_CHECK, query), PROMQL_OK, ""));
@@ -353,6 +353,24 @@ static void test_targets(void)
     CHECK(gives(enforcing("ab=\"\\xc3\"", 8), PROMQL_OK, "a{b=\"\xc3\x83\"}"));
     CHECK(promql_set_target(PROMQL_PROMETHEUS_3) == PROMQL_OK);
     CHECK(gives(of_query(CALL_CHECK, "a{b=\"\\x41\"}"), PROMQL_OK, ""));
+}
+
+/* What a target rejects, by the calls that check a query; what is printed is none of its matters. */
+static void test_refusals(void)
+{
+    const char *groups = "a{b=\"c\" or d=\"e\"}";
+    const char *later = "Prometheus 2.42 rejects this: a length of time without a unit is of a later version; write 300s for 300";
+    CHECK(gives(of_query(CALL_CHECK, groups), PROMQL_REFUSED, "Prometheus 3 rejects this: it knows no `or` between matchers"));
+    CHECK(has_place(of_query(CALL_CHECK, groups), 8, 10, 1, 9));
+    CHECK(gives(of_query(CALL_CHECK, "a[300]"), PROMQL_OK, ""));
+    CHECK(promql_set_target(PROMQL_PROMETHEUS_2) == PROMQL_OK);
+    CHECK(gives(of_query(CALL_CHECK, "a[300]"), PROMQL_REFUSED, later));
+    CHECK(gives(of_query(CALL_CANONICAL, "a[300]"), PROMQL_OK, "a[5m]"));
+    CHECK(gives(enforcing("a[300]b='1'", 6), PROMQL_OK, "a{b=\"1\"}[5m]"));
+    CHECK(lays_out("a[300]", 80, 2, PROMQL_OK, "a[5m]"));
+    CHECK(promql_set_target(PROMQL_RULES) == PROMQL_OK);
+    CHECK(gives(of_query(CALL_CHECK, groups), PROMQL_OK, ""));
+    CHECK(promql_set_target(PROMQL_PROMETHEUS_3) == PROMQL_OK);
 }
 
 /* A matcher, and the query with it, have the limits of a query. */
@@ -957,6 +975,7 @@ int main(int argc, char **argv)
         test_renaming();
         test_formatting();
         test_targets();
+    test_refusals();
         test_large_enforcing();
         test_long_enforcing(14, 31);
         test_long_enforcing(3, 1000);

@@ -150,7 +150,7 @@ class Texts(unittest.TestCase):
             ("foo @ 1.0005", "@", "foo @ 1.001", True),
             (r'foo{a="\ufffd"}', r'"\ufffd"', 'foo{a="\ufffd"}', False),
             ("timestamp((+foo))", "timestamp", "timestamp((foo))", True),
-            ('absent(foo{a="c",a!~"b"})', "absent", 'absent(foo{a!~"b",a="c"})', False),
+            ('absent(foo{a="c",a!~"b"})', "absent", 'absent(foo{a!~"b",a="c"})', True),
         ]
         for query, part, line, is_kept in rows:
             self.assertEqual(promql.canonical(query), line)
@@ -164,6 +164,32 @@ class Texts(unittest.TestCase):
             else:
                 with self.assertRaises(promql.ReadOtherwiseError):
                     promql.format_query(query)
+
+    def test_refusals(self):
+        # (a target, a query, and the part that it rejects)
+        rows = [
+            ("prometheus-3", 'a{b="c" or d="e"}', "or"),
+            ("prometheus-3", "rate(+a[5m])", "+"),
+            ("prometheus-3", "a[300]", ""),
+            ("prometheus-2.42", "a[300]", "300"),
+            ("prometheus-2.42", '{"a b"="é"}', '"a b"'),
+            ("prometheus-2.42", "a + limitk(1, b)", "limitk"),
+            ("rules", 'a{b="c" or d="e"} + limitk(1, b)', ""),
+        ]
+        try:
+            for target, query, part in rows:
+                promql.set_target(target)
+                promql.canonical(query)
+                if not part:
+                    promql.check(query)
+                    continue
+                with self.assertRaises(promql.RefusedError) as raised:
+                    promql.check(query)
+                error = raised.exception
+                self.assertEqual((query[error.start : error.end], error.number), (part, 24))
+                self.assertRegex(error.message, r"^Prometheus (3|2\.42) rejects this: ")
+        finally:
+            promql.set_target("prometheus-3")
 
     def test_long_new_names(self):
         self.assertEqual(promql.rename_label("a{b='1'}", "b", "x" * 1024), 'a{' + "x" * 1024 + '="1"}')

@@ -35,9 +35,9 @@ fn queries_are_laid_out() {
     assert_eq!(format("a+b", Layout::default()).as_deref(), Ok("a + b"));
 }
 
-// (no other test has a query that a target reads otherwise)
+// (no other test has a query that a target reads otherwise or rejects)
 #[test]
-fn targets_read_byte_escapes_otherwise() {
+fn targets_read_otherwise_and_reject() {
     let query = r#"a{b="\xc3\xa9"}"#;
     let line = r#"a{b="Ã©"}"#;
     let placed = |found: Result<String, Error>| matches!(found, Err(Error::ReadOtherwise(it)) if it.range == (5..9));
@@ -48,7 +48,14 @@ fn targets_read_byte_escapes_otherwise() {
     assert_eq!(canonical(query).as_deref(), Ok(line));
     set_target(Target::Rules);
     let found = (check(query), enforce(query, "c='1'"), rename_metric(query, "a", "a"));
+    let all = check(r#"a{b="c" or d="e"} + b[300]"#);
+    set_target(Target::Prometheus2);
+    let later = check("b[300]");
     set_target(Target::Prometheus3);
+    assert_eq!(all, Ok(()));
+    assert!(matches!(later, Err(Error::Refused(it)) if it.range == (2..5)));
+    assert!(matches!(check(r#"a{b="c" or d="e"}"#), Err(Error::Refused(it)) if it.range == (8..10)));
+    assert_eq!(check("b[300]"), Ok(()));
     assert_eq!(found, (Ok(()), Ok(r#"a{b="Ã©",c="1"}"#.to_owned()), Ok(line.to_owned())));
 }
 
