@@ -3,12 +3,16 @@
 from __future__ import annotations
 
 import argparse
-from typing import Any, Tuple
+from functools import partial
+from importlib import import_module
+from typing import Any, List, Tuple
 
+from . import prometheus_api
 from .documents import Skipped, Status, read_document
 from .files import FileError, counted
 from .jobs import Report, add_arguments, as_bytes, bounds_of, failed, skipped_file, work_on
-from .messages import ERROR, REJECTED, RULE, WARNING, in_order, left_out, listed, placed, skipped_queries
+from .messages import ERROR, REJECTED, RULE, SERVER, WARNING, Message, in_order, left_out, listed, placed, skipped_queries
+from .options import whole_number
 from .targets import Target, targets_of
 from .visible import visible
 
@@ -27,6 +31,9 @@ def add_parser(subparsers: Any) -> None:
     parser.add_argument(
         "--queries", action="store_true", help="check queries alone, and not names, labels, durations and templates"
     )
+    prometheus_api.add_arguments(parser, "that is asked what the queries select there now")
+    parser.add_argument("--max-series", type=whole_number, metavar="N", help="warn of a query that reads more series there")
+    parser.add_argument("--max-samples", type=whole_number, metavar="N", help="the same of samples")
     parser.set_defaults(run=_run, command="check")
 
 
@@ -39,7 +46,21 @@ def _variable(text: str) -> Tuple[str, str]:
 
 def _run(arguments: argparse.Namespace) -> int:
     targets = targets_of(arguments.files, arguments.dashboard)
-    return work_on(targets, _check_file, arguments)
+    return work_on(targets, _check_file, arguments, at_end=partial(_ask, arguments) if arguments.prometheus is not None else None)
+
+
+def _ask(arguments: argparse.Namespace, files: List[Any]) -> Tuple[str, Report]:
+    """What a server tells of the queries of all files."""
+    try:
+        api = prometheus_api.api_of(arguments)
+    except prometheus_api.ApiError as error:
+        return "", Report(Status.FAILED, b"", [Message(ERROR, SERVER, str(error), text=str(error), status=Status.FAILED)], failures=[True])
+    return api.url, live_checks().live_report(api, files, arguments)
+
+
+def live_checks() -> Any:
+    """The module that asks a server, which needs the linter."""
+    return import_module(".live_checks", __package__)
 
 
 def _check_file(arguments: argparse.Namespace, target: Target) -> Report:
@@ -55,10 +76,12 @@ def _check_file(arguments: argparse.Namespace, target: Target) -> Report:
     faults = {**dict.fromkeys((*document.faults, *others), RULE), **rejected}
     said = [placed(source, fault, ERROR, faults.get(fault, RULE), source.shown(fault)) for fault in listed(faults, "errors")]
     said += [placed(source, fault, WARNING, RULE, source.located(fault)) for fault in listed(warnings, "warnings")]
-    said = in_order([*said, *left_out(document, arguments.verbose), *skipped_queries(document, True)])
+    facts, left = live_checks().reads_of(document, arguments) if arguments.prometheus is not None else (None, [])
+    said = in_order([*said, *left, *left_out(document, arguments.verbose), *skipped_queries(document, True)])
     parts = [document.summary(), counted(len(faults), "error", "errors")]
     skipped = sum(1 for query in document.queries if query.skipped)
     if skipped:
         parts.insert(1, f"{skipped} skipped")
     summary = f"{visible(source.name)}: {', '.join(parts)}\n"
-    return Report(Status.FINE, as_bytes(summary), said, len(document.queries))
+    status = Status.FAILED if left else Status.FINE
+    return Report(status, as_bytes(summary), said, len(document.queries), facts=facts)

@@ -8,7 +8,7 @@ import os
 import sys
 from functools import partial
 from multiprocessing.connection import Connection
-from typing import Any, Callable, Iterator, List, NamedTuple, Optional, Sequence
+from typing import Any, Callable, Iterator, List, NamedTuple, Optional, Sequence, Tuple
 
 from . import colors
 from .checked_queries import FileBounds
@@ -39,6 +39,8 @@ class Report(NamedTuple):
     messages: Sequence[Message]
     queries: int = 0
     failures: Sequence[bool] = ()
+    # What the command asks of the file for what it says of all files together.
+    facts: Any = None
 
     def put_out(self, with_colors: bool = False) -> None:
         for message in self.messages:
@@ -83,6 +85,8 @@ def failed(name: str, error: FileError) -> Report:
 Work = Callable[[Target], Report]
 # The same with the options for the file.
 ConfiguredWork = Callable[[argparse.Namespace, Target], Report]
+# What is said of all files together, of what is known of each, and by which name.
+AtEnd = Callable[[List[Any]], Tuple[str, Report]]
 
 
 def add_arguments(parser: Any, without_file: str = "") -> None:
@@ -134,8 +138,10 @@ def work_on(
     arguments: argparse.Namespace,
     goes_on: bool = False,
     needs_queries: bool = True,
+    at_end: Optional[AtEnd] = None,
 ) -> Status:
-    """Puts out what is said of each file, and returns the status that counts. It can go on where the output cannot be written."""
+    """Puts out what is said of each file and then of all together, and returns the status that counts. It can go on where the output
+    cannot be written."""
     if not targets:
         arguments.wrong("no FILE is named")
     with_colors = colors.are_wanted(arguments.color, sys.stderr)
@@ -143,7 +149,8 @@ def work_on(
     told: List[Told] = []
     with settings_read_anew():
         reports = reports_of(targets, partial(_configured, work, arguments), arguments.jobs)
-        for name, report in with_progress([target.name for target in targets], reports, sys.stderr):
+        named = with_progress([target.name for target in targets], reports, sys.stderr)
+        for name, report in _with_end(named, at_end) if at_end else named:
             queries += report.queries
             if arguments.output != "text":
                 told.append(Told(name, report.messages, report.failures or report.judged().failures))
@@ -158,6 +165,14 @@ def work_on(
         sys.stdout.buffer.write(as_bytes(made))
         sys.stdout.buffer.flush()
     return worst
+
+
+def _with_end(reports: Iterator[Tuple[str, Report]], at_end: AtEnd) -> Iterator[Tuple[str, Report]]:
+    facts = []
+    for name, report in reports:
+        facts += [report.facts] if report.facts is not None else []
+        yield name, report._replace(facts=None)
+    yield at_end(facts)
 
 
 def _put_out(name: str, report: Report, arguments: argparse.Namespace, with_colors: bool, goes_on: bool) -> Status:

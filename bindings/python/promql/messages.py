@@ -11,8 +11,8 @@ from .queries import Query
 # From the least severe on.
 SEVERITIES = INFO, WARNING, ERROR = ("info", "warning", "error")
 # The codes beside those of the linter: what is wrong with a rule or a file, what is not looked at and may be a query, what is left out
-# since it is something else, a query that is laid out otherwise or stays as it is, and a run that found no query.
-RULE, FILE, UNREAD, SKIPPED, LAYOUT, KEPT, EMPTY = "rule", "file", "unread", "skipped", "layout", "kept", "empty"
+# since it is something else, a query that is laid out otherwise or stays as it is, a run that found no query, and a server.
+RULE, FILE, UNREAD, SKIPPED, LAYOUT, KEPT, EMPTY, SERVER = "rule", "file", "unread", "skipped", "layout", "kept", "empty", "server"
 REJECTED = "P001"
 # Of a file so many places are named that are not looked at, and so many errors, warnings, and skipped queries.
 MOST_UNREAD = 100
@@ -25,6 +25,7 @@ DESCRIPTIONS = {
     LAYOUT: "A query is laid out otherwise.",
     KEPT: "A query is not laid out.",
     EMPTY: "No query was found.",
+    SERVER: "A server does not tell what it is asked for.",
     REJECTED: "The query is rejected.",
 }
 # The status for a message of these codes, where it has no number of its own: then queries are not looked at, for the patterns of a file.

@@ -144,7 +144,7 @@ def _cases(told: Told) -> Iterator[str]:
             kind = "error" if message.code == FILE else "failure"
             text = visible(_with_place(message))
             about = f"type={_attribute(message.code)} message={_attribute(message.message)}"
-            yield _case(f"{_with_place(message, '')} {message.code}", told.file, f"      <{kind} {about}>{escape(text)}</{kind}>\n")
+            yield _case(f"{_with_place(message, '')} {message.code}", message.file or told.file, f"      <{kind} {about}>{escape(text)}</{kind}>\n")
 
 
 def _case(name: str, file: str, content: str) -> str:

@@ -10,6 +10,7 @@ from promql.lint import RULES, RuleContext, Selection, Severity, fix, known_code
 from promql.lint.fixes import edited_query
 from promql.lint.records import RecordedRule, Records
 from promql.lint.subject import Subject
+from promql.lint.table import LIVE
 from promql.token_texts import comments_of
 
 ROOT = Path(__file__).resolve().parents[3]
@@ -362,8 +363,8 @@ class Rules(unittest.TestCase):
                 self.assertEqual(found_by(code, query), [])
 
     def test_each_code_is_tried(self):
-        # (P003 is a finding of files)
-        self.assertEqual({code for code, *_ in FOUND}, set(known_codes()) - {"P003"})
+        # (P003 is a finding of files, and those of a server are in test_live_checks.py)
+        self.assertEqual({code for code, *_ in FOUND}, set(known_codes()) - {"P003", *LIVE})
         self.assertLessEqual({code for code, _ in NOT_FOUND}, set(known_codes()))
 
     def test_no_context(self):

@@ -7,7 +7,7 @@ import re
 from dataclasses import replace
 from difflib import SequenceMatcher
 from itertools import accumulate
-from typing import Any, Dict, Iterator, List, NamedTuple, Optional, Sequence, Set, Tuple
+from typing import Any, Dict, FrozenSet, Iterator, List, NamedTuple, Optional, Sequence, Set, Tuple
 
 import promql
 
@@ -17,10 +17,11 @@ from ..documents import Document
 from ..files import BLANKS, BoundError, Fault, FileError, Source
 from ..placed_files import PlacedSpelling
 from ..queries import Edit, Query, edited
+from ..rule_documents import Kind
 from ..rule_files import RuleFile
 from ..scalars import Scalar
 from . import found_in
-from .comments import Ignored, codes_of, silenced_in
+from .comments import Ignored, codes_of, ignored_in, silenced_in
 from .findings import Finding, Fix, Severity, Span, TextEdit, Tree
 from .fixes import all_fixed, edited_query
 from .given_queries import GivenQuery
@@ -28,7 +29,7 @@ from .known_looks import LOOKS, KnownLooks, take
 from .rule_places import MOST_INTERVALS, RulePlace, rules_of
 from .silence import Comment, Silences
 from .subject import IsWritten, RuleContext, always
-from .table import REJECTED, UNUSED, Selection, known_codes
+from .table import LIVE, REJECTED, UNUSED, Selection, known_codes
 
 # A part that changed is written whole where it is longer, or where such parts of a file, each times what is there instead, are too large.
 _LONGEST_COMPARED, _MOST_COMPARED = 1_000, 250_000
@@ -114,8 +115,7 @@ class FileLinter:
             except RecursionError:
                 self.left.append(query.whole("not looked at: nested too deeply for the linter"))
             except BoundError:
-                message = f"not looked at from here on: the queries of the file have more than {self._budget.most:,} tokens together"
-                self.left.append(query.whole(f"{message} (--max-lint-tokens)"))
+                self._leave_from(query)
                 break
             except ValueError as error:
                 self.left.append(checker.rejected(query, error))
@@ -123,6 +123,34 @@ class FileLinter:
         if not self.left and self._selection.has(UNUSED):
             found += self._unused_comments()
         return sorted(found, key=lambda it: (it.start, it.end, it.finding.code, it.finding.message))
+
+    def _leave_from(self, query: Query) -> None:
+        message = f"not looked at from here on: the queries of the file have more than {self._budget.most:,} tokens together"
+        self.left.append(query.whole(f"{message} (--max-lint-tokens)"))
+
+    def accepted(self) -> Iterator[Query]:
+        """The queries that are accepted, as far as the bound of tokens goes, but for those of unit tests."""
+        has_tests = isinstance(self._document, RuleFile) and any(it.kind is Kind.TESTS for it in self._document.documents)
+        checker = self._document.checker
+        for query in self._document.queries:
+            is_right = not query.skipped and checker.admits(query.text) and not checker.error(query.text)
+            if not is_right or has_tests and not self._rules_with(query):
+                continue
+            try:
+                take(query.text, self._budget)
+            except BoundError:
+                self._leave_from(query)
+                return
+            yield query
+
+    def silenced(self, query: Query) -> FrozenSet[str]:
+        """The codes that comments silence of a query in all rules that have it."""
+        return frozenset.intersection(*(ignored.codes for _, ignored in self._contexts(query))) | ignored_in(query.text).codes
+
+    @property
+    def recorded(self) -> FrozenSet[str]:
+        """The metrics that the rules of the file record."""
+        return frozenset(it.context.record for rules in self._rules.values() for it in rules) - {""}
 
     def _look_at_query(self, query: Query) -> List[Finding]:
         """What is found in a query, for each of the rules that have it."""
@@ -165,7 +193,8 @@ class FileLinter:
                 for _, start, end in self._places(query) if codes else ():
                     self._silences.use(start, end, codes)
         for comment in (*self._unused, *(self._silences.unused() if self._silences else ())):
-            if all(any(map(self._selection.has, codes_of(word))) or not codes_of(word) for word in comment.words):
+            # (what a server tells is not looked for)
+            if all(any(it not in LIVE and self._selection.has(it) for it in codes_of(word)) or not codes_of(word) for word in comment.words):
                 finding = Finding(Span(0, 0), UNUSED, _UNUSED, Severity.WARNING)
                 yield FileFinding(comment.start, comment.end, finding, None, ())
 
@@ -185,9 +214,12 @@ class FileLinter:
 
     def _places(self, query: Query) -> List[Tuple[RuleContext, int, int]]:
         """The rules that have a query, and where they are."""
-        end = query.spelling.end if isinstance(query.spelling, (Scalar, PlacedSpelling)) else -1
-        rules = [(it.context, it.start, it.end) for it in self._rules.get(end, ())]
+        rules = [(it.context, it.start, it.end) for it in self._rules_with(query)]
         return rules or [(RuleContext(), query.offsets[0], query.offsets[-1])]
+
+    def _rules_with(self, query: Query) -> Sequence[RulePlace]:
+        end = query.spelling.end if isinstance(query.spelling, (Scalar, PlacedSpelling)) else -1
+        return self._rules.get(end, ())
 
     @staticmethod
     def _is_written(query: Query) -> IsWritten:

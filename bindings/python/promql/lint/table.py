@@ -32,6 +32,18 @@ _HELPS = {
     UNCOMPARED: "The patterns of the query are too large to be compared with its values.",
     UNUSED: "A comment silences no finding.",
 }
+# What `check --prometheus` finds, by its codes: names and helps.
+LIVE = {
+    "P801": ("no-such-metric", "A metric of which a server has no series."),
+    "P802": ("no-such-label", "A label that no series of a metric has on a server."),
+    "P803": ("no-such-value", "A matcher that no series of a metric fits on a server."),
+    "P804": ("no-such-series", "Matchers that fit series of a server, but none all of them."),
+    "P805": ("many-series", "A query that reads more series of a server than it may."),
+    "P806": ("many-samples", "A query that reads more samples of a server than it may."),
+    "P807": ("reads", "How many series and samples of a server a query reads."),
+}
+NAMES.update({code: name for code, (name, _) in LIVE.items()})
+_HELPS.update({code: text for code, (_, text) in LIVE.items()})
 
 
 def rule(code: str, name: str, severity: Severity, is_default: bool = True) -> Callable[[Look], Look]:
