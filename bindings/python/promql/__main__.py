@@ -9,11 +9,11 @@ import signal
 import sys
 from typing import List, Optional, TextIO
 
-from . import check_command, completion_command, format_command, lint_command, lsp_command, page, set_target
+from . import check_command, completion_command, format_command, lint_command, lsp_command, metrics_command, page, set_target
 from .documents import Status
 from .options import PROGRAM, Parser
 
-COMMANDS = (check_command, format_command, lint_command, lsp_command, page, completion_command)
+COMMANDS = (check_command, format_command, lint_command, metrics_command, lsp_command, page, completion_command)
 # After how many new objects cycles are looked for.
 _NEW_OBJECTS = 100_000
 

@@ -5,14 +5,14 @@ from __future__ import annotations
 import argparse
 from functools import partial
 from importlib import import_module
-from typing import Any, List, Tuple
+from typing import Any, List, Sequence, Tuple
 
-from . import prometheus_api
-from .documents import Skipped, Status, read_document
-from .files import FileError, counted
+from .documents import Document, Skipped, Status, read_document
+from .files import Fault, FileError, counted
 from .jobs import Report, add_arguments, as_bytes, bounds_of, failed, skipped_file, work_on
-from .messages import ERROR, REJECTED, RULE, SERVER, WARNING, Message, in_order, left_out, listed, placed, skipped_queries
+from .messages import ERROR, REJECTED, RULE, WARNING, Message, in_order, left_out, listed, placed, skipped_queries
 from .options import whole_number
+from .prometheus_api import add_server_arguments, api_of
 from .targets import Target, targets_of
 from .visible import visible
 
@@ -31,7 +31,7 @@ def add_parser(subparsers: Any) -> None:
     parser.add_argument(
         "--queries", action="store_true", help="check queries alone, and not names, labels, durations and templates"
     )
-    prometheus_api.add_arguments(parser, "that is asked what the queries select there now")
+    add_server_arguments(parser, "that is asked what the queries select there now")
     parser.add_argument("--max-series", type=whole_number, metavar="N", help="warn of a query that reads more series there")
     parser.add_argument("--max-samples", type=whole_number, metavar="N", help="the same of samples")
     parser.set_defaults(run=_run, command="check")
@@ -45,22 +45,22 @@ def _variable(text: str) -> Tuple[str, str]:
 
 
 def _run(arguments: argparse.Namespace) -> int:
-    targets = targets_of(arguments.files, arguments.dashboard)
-    return work_on(targets, _check_file, arguments, at_end=partial(_ask, arguments) if arguments.prometheus is not None else None)
+    api = api_of(arguments)
+    at_end = partial(_live_checks().live_report, api, arguments) if api else None
+    return work_on(targets_of(arguments.files, arguments.dashboard), _check_file, arguments, at_end=at_end)
 
 
-def _ask(arguments: argparse.Namespace, files: List[Any]) -> Tuple[str, Report]:
-    """What a server tells of the queries of all files."""
-    try:
-        api = prometheus_api.api_of(arguments)
-    except prometheus_api.ApiError as error:
-        return "", Report(Status.FAILED, b"", [Message(ERROR, SERVER, str(error), text=str(error), status=Status.FAILED)], failures=[True])
-    return api.url, live_checks().live_report(api, files, arguments)
-
-
-def live_checks() -> Any:
+def _live_checks() -> Any:
     """The module that asks a server, which needs the linter."""
     return import_module(".live_checks", __package__)
+
+
+def rejections(document: Document, others: Sequence[Fault] = ()) -> Tuple[int, List[Message]]:
+    """How many errors a file has with these others, and the messages."""
+    rejected = {fault: REJECTED for fault in document.checker.faults(document.queries)}
+    faults, source = {**dict.fromkeys((*document.faults, *others), RULE), **rejected}, document.source
+    said = [placed(source, fault, ERROR, faults.get(fault, RULE), source.shown(fault)) for fault in listed(faults, "errors")]
+    return len(faults), said
 
 
 def _check_file(arguments: argparse.Namespace, target: Target) -> Report:
@@ -72,13 +72,11 @@ def _check_file(arguments: argparse.Namespace, target: Target) -> Report:
     except FileError as error:
         return failed(target.name, error)
     source = document.source
-    rejected = {fault: REJECTED for fault in document.checker.faults(document.queries)}
-    faults = {**dict.fromkeys((*document.faults, *others), RULE), **rejected}
-    said = [placed(source, fault, ERROR, faults.get(fault, RULE), source.shown(fault)) for fault in listed(faults, "errors")]
+    count, said = rejections(document, others)
     said += [placed(source, fault, WARNING, RULE, source.located(fault)) for fault in listed(warnings, "warnings")]
-    facts, left = live_checks().reads_of(document, arguments) if arguments.prometheus is not None else (None, [])
+    facts, left = _live_checks().reads_of(document, arguments) if arguments.prometheus else (None, [])
     said = in_order([*said, *left, *left_out(document, arguments.verbose), *skipped_queries(document, True)])
-    parts = [document.summary(), counted(len(faults), "error", "errors")]
+    parts = [document.summary(), counted(count, "error", "errors")]
     skipped = sum(1 for query in document.queries if query.skipped)
     if skipped:
         parts.insert(1, f"{skipped} skipped")

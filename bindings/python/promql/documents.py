@@ -4,7 +4,7 @@ from __future__ import annotations
 
 import re
 from enum import IntEnum
-from typing import Iterable, List, Mapping, NamedTuple, Optional, Protocol, Tuple, Union
+from typing import FrozenSet, Iterable, Iterator, List, Mapping, NamedTuple, Optional, Protocol, Tuple, Union
 
 from ._answers import Status as Answered
 from .checked_queries import FileBounds, QueryChecker
@@ -12,6 +12,7 @@ from .dashboards import Dashboard, may_have_queries
 from .exact_yaml import NoReaderError
 from .files import BoundError, Fault, FileError, Source, nested_too_deeply, read_source
 from .queries import Query, SameQuery
+from .rule_documents import Kind
 from .rule_files import RuleFile
 from .targets import Target
 
@@ -149,3 +150,18 @@ class NotReadError(FileError):
         super().__init__(str(error), error.number)
         self.text = source.text
         self.source, self.span, self.message = error.source, error.span, error.message
+
+
+def accepted(document: Document) -> Iterator[Query]:
+    """The queries that are looked at and accepted, but for those of unit tests."""
+    if isinstance(document, RuleFile) and any(it.kind is Kind.TESTS for it in document.documents):
+        return iter(())
+    checker = document.checker
+    return (it for it in document.queries if not it.skipped and checker.admits(it.text) and not checker.error(it.text))
+
+
+def recorded_in(document: Document) -> FrozenSet[str]:
+    """The metrics that the rules of a file record, with those of its texts that are files."""
+    files = [document, *(it.document for it in document.texts)] if isinstance(document, RuleFile) else []
+    names = (file.mappings.value(rule, "record") for file in files if isinstance(file, RuleFile) for rule in file.rules())
+    return frozenset(str(name.value) for name in names if name and name.is_scalar())

@@ -7,8 +7,9 @@ import multiprocessing
 import os
 import sys
 from functools import partial
+from itertools import chain
 from multiprocessing.connection import Connection
-from typing import Any, Callable, Iterator, List, NamedTuple, Optional, Sequence, Tuple
+from typing import Any, Callable, Iterable, Iterator, List, NamedTuple, Optional, Sequence, Tuple
 
 from . import colors
 from .checked_queries import FileBounds
@@ -89,7 +90,7 @@ ConfiguredWork = Callable[[argparse.Namespace, Target], Report]
 AtEnd = Callable[[List[Any]], Tuple[str, Report]]
 
 
-def add_arguments(parser: Any, without_file: str = "") -> None:
+def add_arguments(parser: Any, without_file: str = "", outputs: Iterable[str] = OUTPUTS) -> None:
     """What the commands over files have in common. Some do something without a file."""
     files = "a rule file, a dashboard (.json), a folder with rule files, or - for standard input"
     parser.add_argument("files", nargs="*", metavar="FILE", help=files + without_file)
@@ -103,7 +104,7 @@ def add_arguments(parser: Any, without_file: str = "") -> None:
     parser.add_argument("--max-patterns", type=whole_number, metavar="N", help="the most that patterns of a query may measure (16000)")
     parser.add_argument("--config", metavar="FILE", help="the file with settings, and no .promql.toml or pyproject.toml")
     parser.add_argument(
-        "--output", choices=("text", *OUTPUTS), default="text", help="how messages are printed to standard output (text)"
+        "--output", choices=("text", *outputs), default="text", help="how messages are printed to standard output (text)"
     )
     parser.add_argument("--fail-on", choices=SEVERITIES[::-1], help="the least severe messages with which the command fails")
     parser.add_argument("--strict", action="store_true", help="fail where something that may be a query is not looked at")
@@ -149,9 +150,11 @@ def work_on(
     told: List[Told] = []
     with settings_read_anew():
         reports = reports_of(targets, partial(_configured, work, arguments), arguments.jobs)
-        named = with_progress([target.name for target in targets], reports, sys.stderr)
-        for name, report in _with_end(named, at_end) if at_end else named:
+        each = with_progress([target.name for target in targets], reports, sys.stderr)
+        facts: List[Any] = []
+        for name, report in chain(each, (last(facts) for last in filter(None, [at_end]))):
             queries += report.queries
+            facts += [report.facts] if report.facts is not None else []
             if arguments.output != "text":
                 told.append(Told(name, report.messages, report.failures or report.judged().failures))
             worst = Status.last([worst, report.status, _put_out(name, report, arguments, with_colors, goes_on)])
@@ -165,14 +168,6 @@ def work_on(
         sys.stdout.buffer.write(as_bytes(made))
         sys.stdout.buffer.flush()
     return worst
-
-
-def _with_end(reports: Iterator[Tuple[str, Report]], at_end: AtEnd) -> Iterator[Tuple[str, Report]]:
-    facts = []
-    for name, report in reports:
-        facts += [report.facts] if report.facts is not None else []
-        yield name, report._replace(facts=None)
-    yield at_end(facts)
 
 
 def _put_out(name: str, report: Report, arguments: argparse.Namespace, with_colors: bool, goes_on: bool) -> Status:

@@ -3,17 +3,19 @@
 from __future__ import annotations
 
 import argparse
-from typing import Dict, FrozenSet, Iterator, List, NamedTuple, Optional, Sequence, Tuple, Union
+from functools import lru_cache
+from typing import FrozenSet, Iterator, List, NamedTuple, Optional, Sequence, Tuple
 
 from . import tree
-from .documents import Document, Status
-from .files import counted
+from .documents import Document, Status, accepted, recorded_in
+from .files import BoundError, counted
 from .jobs import Report, as_bytes
 from .lint.file_findings import FileLinter
+from .lint.known_looks import take
 from .lint.table import LIVE, Selection, help_of, name_of
 from .lint.trees import NAME
-from .messages import ERROR, INFO, SERVER, UNREAD, WARNING, Message, listed, placed
-from .prometheus_api import ApiError, PrometheusApi, RefusedError
+from .messages import ERROR, INFO, UNREAD, WARNING, Message, listed, of_server, placed
+from .prometheus_api import ApiError, PrometheusApi
 from .queries import Query
 from .visible import visible
 
@@ -23,12 +25,11 @@ _LOOKBACK = 300_000
 # What a server has as long as one of its alerts fires, and what asks whether there are no series.
 _OF_ALERTS, _ABSENT = ("ALERTS", "ALERTS_FOR_STATE"), ("absent", "absent_over_time")
 _LONGEST = 500
-_ALL = tree.Selector(None)
 
 
 class Reading(NamedTuple):
-    """A selector of a query without `offset` and `@`; over how many milliseconds it is read, where that is more than one time and known;
-    where it is; and the outermost `or` that it is below, of which one side may select nothing."""
+    """A selector of a query as it is asked for; over how many milliseconds it is read, where that is more than one time and known; where
+    it is; and the outermost `or` that it is below, of which one side may select nothing."""
 
     text: str
     selector: tree.Selector
@@ -53,19 +54,22 @@ FileReads = Tuple[Sequence[QueryReads], FrozenSet[str]]
 def reads_of(document: Document, arguments: argparse.Namespace) -> Tuple[FileReads, List[Message]]:
     """What a file reads, and what is not looked at there."""
     selection, source = Selection(tuple(sum(arguments.select, ())), (), arguments.steps), document.source
-    linter, found = FileLinter(document, selection), []
-    for query in linter.accepted():
+    linter, found, faults = FileLinter(document, selection), [], []
+    for query in accepted(document):
         codes = frozenset(filter(selection.has, LIVE)) - linter.silenced(query)
         try:
+            take(query.text, document.checker.lint_tokens)
             readings = list(_readings(document, query)) if codes else ()
+        except BoundError as error:
+            faults.append(query.whole(f"not looked at from here on: {error} (--max-lint-tokens)"))
+            break
         except (RecursionError, ValueError) as error:
-            why = "nested too deeply" if isinstance(error, RecursionError) else str(error)
-            linter.left.append(query.whole(f"not looked at: {why}"))
+            faults.append(query.whole(f"not looked at: {'nested too deeply' if isinstance(error, RecursionError) else error}"))
             continue
         if readings:
             found.append(QueryReads(readings, _at(document, query, (0, len(query.text))), codes, arguments.fail_on or ERROR))
-    left = [placed(source, fault, ERROR, UNREAD, source.shown(fault)) for fault in listed(linter.left, "errors")]
-    return (found, linter.recorded), left
+    left = [placed(source, fault, ERROR, UNREAD, source.shown(fault)) for fault in listed(faults, "errors")]
+    return (found, recorded_in(document)), left
 
 
 def _at(document: Document, query: Query, place: Tuple[int, int]) -> Message:
@@ -74,7 +78,8 @@ def _at(document: Document, query: Query, place: Tuple[int, int]) -> Message:
 
 
 def _readings(document: Document, query: Query) -> Iterator[Reading]:
-    """The selectors of a query that can be asked for, but for those of which `absent` asks."""
+    """The selectors of a query that can be asked for, but for those of which `absent` asks. Matchers with variables of Grafana are left
+    out, and selectors with one in the name of their metric."""
     todo: List[Tuple[tree.Expr, int, int]] = [(tree.parse(query.text, places=True), 0, 0)]
     while todo:
         node, window, choice = todo.pop()
@@ -84,19 +89,12 @@ def _readings(document: Document, query: Query) -> Iterator[Reading]:
         if isinstance(node, (tree.RangeSelector, tree.Subquery)):
             window += node.range
         if isinstance(node, (tree.Selector, tree.RangeSelector)):
-            selector = _asked(node, query)
-            text = _text(selector)
-            if text:
-                yield Reading(text, selector, 0 if query.variables else window, _at(document, query, place), choice)
+            names = [node.name or "", *(it.value for it in node.matchers if it.name == NAME)]
+            selector = tree.Selector(node.name, tuple(it for it in node.matchers if _is_written(query, it.name, it.value)))
+            if not node.or_matchers and _is_written(query, *names) and _text(selector):
+                yield Reading(_text(selector), selector, 0 if query.variables else window, _at(document, query, place), choice)
         elif not isinstance(node, tree.Call) or node.name not in _ABSENT:
             todo += [(it, window, choice) for it in reversed(node.children())]
-
-
-def _asked(node: Union[tree.Selector, tree.RangeSelector], query: Query) -> tree.Selector:
-    """What is asked of a server for a selector: without matchers that have variables of Grafana; nothing where its name has one."""
-    is_known = not node.or_matchers and _is_written(query, node.name or "", *(it.value for it in node.matchers if it.name == NAME))
-    matchers = (it for it in node.matchers if _is_written(query, it.name, it.value))
-    return tree.Selector(node.name, tuple(matchers)) if is_known else _ALL
 
 
 def _is_written(query: Query, *texts: str) -> bool:
@@ -112,34 +110,10 @@ def _text(selector: tree.Selector) -> str:
 
 
 class LiveChecks:
-    """Asks a server about queries, each thing once."""
+    """Asks a server about queries."""
 
     def __init__(self, api: PrometheusApi, recorded: FrozenSet[str], most: Sequence[Optional[int]], tells_all: bool) -> None:
-        self._api, self._recorded, self._most, self._tells_all = api, recorded, most, tells_all
-        self._known: Dict[str, Union[int, ApiError]] = {}
-        # Why the server is not asked any more.
-        self._error: Optional[ApiError] = None
-
-    def _number(self, query: str) -> int:
-        """The only value of a query, or 0 where it gives no series."""
-        if query not in self._known:
-            self._known[query] = self._error or self._ask(query)
-        found = self._known[query]
-        if isinstance(found, ApiError):
-            raise found.with_traceback(None)
-        return found
-
-    def _ask(self, query: str) -> Union[int, ApiError]:
-        try:
-            data = self._api.get("query", {"query": query})
-            return int(float(data["result"][0]["value"][1])) if data["result"] else 0
-        except RefusedError as error:
-            return error
-        except ApiError as error:
-            self._error = error
-        except (LookupError, TypeError, ValueError, OverflowError):
-            self._error = ApiError(f"{self._api.url}: an answer without the value of a query")
-        return self._error
+        self._number, self._recorded, self._most, self._tells_all = lru_cache(maxsize=None)(api.number), recorded, most, tells_all
 
     def look_at(self, query: QueryReads) -> Iterator[Message]:
         """What is found of a query. Raises ApiError where the server does not tell it."""
@@ -192,9 +166,9 @@ class LiveChecks:
             yield READS, f"it reads {series:,} series and {samples:,} samples"
 
 
-def live_report(api: PrometheusApi, files: Sequence[FileReads], arguments: argparse.Namespace) -> Report:
-    """What a server tells of the queries of files."""
-    recorded: FrozenSet[str] = frozenset().union(*(recorded for _, recorded in files))
+def live_report(api: PrometheusApi, arguments: argparse.Namespace, files: Sequence[FileReads]) -> Tuple[str, Report]:
+    """What a server tells of the queries of all files, by its URL."""
+    recorded: FrozenSet[str] = frozenset().union(*(names for _, names in files))
     checks = LiveChecks(api, recorded, (arguments.max_series, arguments.max_samples), arguments.verbose)
     queries = [query for found, _ in files for query in found]
     told: List[Tuple[Message, bool]] = []
@@ -206,8 +180,7 @@ def live_report(api: PrometheusApi, files: Sequence[FileReads], arguments: argpa
             errors.append(error)
     if errors:
         # (the last one is that after which nothing is asked)
-        text = f"{errors[-1]}; {len(errors):,} of {counted(len(queries), 'query', 'queries')} not looked at there"
-        told.append((Message(ERROR, SERVER, text, text=text, status=Status.FAILED), True))
+        told.append((of_server(f"{errors[-1]}; {len(errors):,} of {counted(len(queries), 'query', 'queries')} not looked at there"), True))
     summary = f"{api.url}: {counted(len(queries), 'query', 'queries')}, {counted(len(told), 'message', 'messages')}\n"
     status = Status.last([Status.FINE, *(it.status for it, fails in told if fails)])
-    return Report(status, as_bytes(summary), [it for it, _ in told], 0, [fails for _, fails in told])
+    return api.url, Report(status, as_bytes(summary), [it for it, _ in told], 0, [fails for _, fails in told])

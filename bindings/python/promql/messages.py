@@ -91,6 +91,11 @@ def of_file(name: str, message: str, severity: str = ERROR, code: str = FILE) ->
     return Message(severity, code, message, name, None, shown, status=Status.FAILED if severity == ERROR else Status.FOUND)
 
 
+def of_server(message: str) -> Message:
+    """Why a server does not tell what it is asked for."""
+    return Message(ERROR, SERVER, message, text=message, status=Status.FAILED)
+
+
 def of_error(name: str, error: FileError) -> Message:
     """Why nothing is done with a file."""
     region = region_of(error.source, *error.span) if error.source and error.span else None

@@ -40,10 +40,6 @@ class RefusedError(ApiError):
     """The server rejects this request, or gives it up. Another one may be answered."""
 
 
-class NotAskedError(ApiError):
-    """As many requests were made as may be, or they took as long together. Nothing is asked any more."""
-
-
 class PrometheusApi:
     """A server at `http://HOST:PORT/PATH`. It is asked directly, by no proxy of the environment, and no redirect is followed."""
 
@@ -63,24 +59,40 @@ class PrometheusApi:
         self._headers = {"Accept": "application/json", **({"Authorization": authorization} if authorization else {})}
         self._bounds = bounds
         self._requests, self._end = 0, 0.0
+        # Why nothing is asked any more.
+        self._error = ""
+
+    def number(self, query: str) -> int:
+        """The only value of a query, or 0 where it gives no series. Raises ApiError."""
+        data = self.get("query", {"query": query})
+        try:
+            return int(float(data["result"][0]["value"][1])) if data["result"] else 0
+        except (LookupError, TypeError, ValueError, OverflowError):
+            self._error = "an answer without the value of a query"
+        raise ApiError(f"{self.url}: {self._error}")
 
     def get(self, path: str, parameters: Mapping[str, Union[str, Sequence[str]]] = {}) -> Any:
-        """The `data` that the server has at `/api/v1/PATH` for these parameters. Raises ApiError."""
+        """The `data` that the server has at `/api/v1/PATH` for these parameters. Raises ApiError; after one that is no RefusedError the
+        server is not asked any more."""
         now, bounds = time.monotonic(), self._bounds
         self._end = self._end or now + bounds.server_timeout
         if self._requests >= bounds.max_requests:
-            raise NotAskedError(f"{self.url}: more than {bounds.max_requests:,} requests (--max-requests)")
-        if now >= self._end:
-            raise NotAskedError(f"{self.url}: the requests take more than {bounds.server_timeout:g} s (--server-timeout)")
+            self._error = self._error or f"more than {bounds.max_requests:,} requests (--max-requests)"
+        elif now >= self._end:
+            self._error = self._error or f"the requests take more than {bounds.server_timeout:g} s (--server-timeout)"
         self._requests += 1
         try:
-            return self._asked(f"{self._path}/api/v1/{path}", urlencode(parameters, doseq=True), min(self._end, now + bounds.request_timeout))
-        except socket.timeout as error:
-            raise ApiError(f"{self.url}: no answer within {time.monotonic() - now:.1f} s (--request-timeout)") from error
+            if not self._error:
+                return self._asked(f"{self._path}/api/v1/{path}", urlencode(parameters, doseq=True), min(self._end, now + bounds.request_timeout))
+        except socket.timeout:
+            self._error = f"no answer within {time.monotonic() - now:.1f} s (--request-timeout)"
         except OSError as error:
-            raise ApiError(f"{self.url}: {visible(error.strerror or str(error))}") from error
+            self._error = visible(error.strerror or str(error))
         except (HTTPException, UnicodeError) as error:
-            raise ApiError(f"{self.url}: no answer in HTTP: {_said(str(error) or type(error).__name__)}") from error
+            self._error = f"no answer in HTTP: {_said(str(error) or type(error).__name__)}"
+        except ValueError as error:
+            self._error = str(error)
+        raise ApiError(f"{self.url}: {self._error}")
 
     def _asked(self, path: str, parameters: str, end: float) -> Any:
         """What the server answers until this time."""
@@ -99,9 +111,9 @@ class PrometheusApi:
 
     def _data(self, response: HTTPResponse, answer: bytes) -> Any:
         if 300 <= response.status < 400:
-            raise ApiError(f"{self.url}: redirects to another place, with status {response.status}")
+            raise ValueError(f"redirects to another place, with status {response.status}")
         if len(answer) > self._bounds.max_answer:
-            raise ApiError(f"{self.url}: an answer of more than {self._bounds.max_answer:,} bytes (--max-answer)")
+            raise ValueError(f"an answer of more than {self._bounds.max_answer:,} bytes (--max-answer)")
         try:
             # (to read an `int` of many digits takes a time that grows with their square)
             found = json.loads(answer, parse_int=float)
@@ -110,7 +122,7 @@ class PrometheusApi:
         status = f"status {response.status} {_said(response.reason or '')}".strip()
         if not isinstance(found, dict) or found.get("status") not in ("success", "error"):
             kind = response.headers.get("Content-Type", "no type").partition(";")[0]
-            raise ApiError(f"{self.url}: no answer of a Prometheus, but {_said(kind)}, with {status}")
+            raise ValueError(f"no answer of a Prometheus, but {_said(kind)}, with {status}")
         if found["status"] == "error":
             raise RefusedError(f"{self.url}: {status}: {_said(str(found.get('error', '')))}")
         return found.get("data")
@@ -142,35 +154,27 @@ def _basic(user: str, password: str) -> str:
     return f"Basic {base64.b64encode(f'{user}:{password}'.encode()).decode()}"
 
 
-def add_arguments(parser: Any, use: str) -> None:
+def add_server_arguments(parser: Any, use: str) -> None:
     """The options that name a server, and what is asked of it."""
     seconds, most = partial(whole_number, least=1, most=_MOST_SECONDS), ApiBounds()
     parser.add_argument("--prometheus", metavar="URL", help=f"the Prometheus {use}")
-    parser.add_argument("--prometheus-user", metavar="NAME", help="the user for it, with --prometheus-password-file")
-    parser.add_argument("--prometheus-password-file", metavar="FILE", help="the file with the password of this user")
-    parser.add_argument("--prometheus-bearer-file", metavar="FILE", help="the file with a token, in place of a user")
+    parser.add_argument("--prometheus-credentials", metavar="FILE", help="the file with NAME:PASSWORD for it, or with a token")
     parser.add_argument("--max-requests", type=whole_number, default=most[0], metavar="N", help=f"the most requests to it ({most[0]})")
     parser.add_argument("--request-timeout", type=seconds, default=most[1], metavar="S", help=f"the most seconds of a request ({most[1]})")
     parser.add_argument("--server-timeout", type=seconds, default=most[2], metavar="S", help=f"the same of all requests ({most[2]})")
     parser.add_argument("--max-answer", type=whole_number, default=most[3], metavar="N", help=f"the most bytes of an answer ({most[3]})")
 
 
-def api_of(arguments: argparse.Namespace) -> PrometheusApi:
-    """The server that the options name. Raises ApiError."""
-    authorization = ""
-    if arguments.prometheus_bearer_file:
-        authorization = f"Bearer {_secret(arguments.prometheus_bearer_file)}"
-    elif arguments.prometheus_password_file:
-        authorization = _basic(arguments.prometheus_user or "", _secret(arguments.prometheus_password_file))
-    return PrometheusApi(arguments.prometheus, ApiBounds(*(getattr(arguments, name) for name in ApiBounds._fields)), authorization)
-
-
-def _secret(name: str) -> str:
-    """A password or a token of a file, without the end of its line."""
+def api_of(arguments: argparse.Namespace) -> Optional[PrometheusApi]:
+    """The server that the options name, if there is one. Where they are wrong, the command ends."""
     try:
-        found = read_source(name).text.rstrip("\r\n")
-    except FileError as error:
-        raise ApiError(str(error)) from error
-    if not found or not found.isprintable() or not found.isascii():
-        raise ApiError(f"{visible(name)}: not one line of printable characters of ASCII")
-    return found
+        if arguments.prometheus is None:
+            return None
+        secret = read_source(arguments.prometheus_credentials).text.rstrip("\r\n") if arguments.prometheus_credentials else ""
+        if not secret.isascii() or not secret.isprintable():
+            raise ApiError(f"{arguments.prometheus_credentials}: not one line of printable characters of ASCII")
+        authorization = _basic(*secret.split(":", 1)) if ":" in secret else f"Bearer {secret}" if secret else ""
+        return PrometheusApi(arguments.prometheus, ApiBounds(*(getattr(arguments, it) for it in ApiBounds._fields)), authorization)
+    except (ApiError, FileError) as error:
+        arguments.wrong(str(error))
+    return None

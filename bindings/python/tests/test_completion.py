@@ -11,13 +11,15 @@ from command_line import run
 
 # The words before the one that is completed, its beginning, and what may come there.
 COMPLETED = (
-    ((), "", ["check", "completion", "format", "lint", "lsp", "serve"]),
+    ((), "", ["check", "completion", "format", "lint", "lsp", "metrics", "serve"]),
     ((), "ch", ["check"]),
     (("check",), "--c", ["--color", "--config"]),
     (("format",), "--wi", ["--width"]),
     (("format", "a.yml", "--color"), "", ["always", "auto", "never"]),
     (("completion",), "b", ["bash"]),
     (("lint", "a.yml", "--output"), "", ["github", "json", "junit", "sarif", "text"]),
+    (("check",), "--prom", ["--prometheus", "--prometheus-credentials"]),
+    (("metrics", "a.yml", "--output"), "", ["json", "text"]),
     (("serve",), "--p", ["--port"]),
 )
 

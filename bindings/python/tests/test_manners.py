@@ -27,7 +27,7 @@ HAS_TOML = any(map(importlib.util.find_spec, ("tomllib", "tomli")))
 RULE = "groups:\n- name: a\n  rules:\n  - alert: B\n    expr: "
 FINE, WRONG, MESSY = RULE + "up == 0\n", RULE + "up ==\n", RULE + "up==0\n"
 # The subcommands over files, and others with the words that they need.
-OVER_FILES = (("check",), ("format", "--check"), ("lint",))
+OVER_FILES = (("check",), ("format", "--check"), ("lint",), ("metrics",))
 OTHERS = (("lsp",), ("serve",), ("completion", "bash"))
 COMMAND_NAMES = {words[0] for words in OVER_FILES + OTHERS}
 # What is wrong with the arguments of each, and what is said of it.
@@ -41,13 +41,16 @@ WRONG_WORDS = (
     (("format",), "no FILE is named"),
     (("lint", "--selekt", "P1"), "no option is called --selekt: did you mean --select?"),
     (("lint", "--jobs=x", "a.yml"), "argument --jobs: not a number from 1 to 256: 'x'"),
+    (("metrics", "--output", "jsn", "a.yml"), "argument --output: 'jsn' is none of text, json: did you mean json?"),
+    (("metrics",), "no FILE is named"),
+    (("metrics", "--prometheus", "localhost", "a.yml"), "not the URL of a server, `http://HOST:PORT`: localhost"),
     (("lsp", "--no-lnt"), "no option is called --no-lnt: did you mean --no-lint?"),
     (("lsp", "a.yml"), "too many arguments: 'a.yml'"),
     (("serve", "--prt", "1"), "no option is called --prt: did you mean --port?"),
     (("serve", "--port", "65536"), "argument --port: not a number from 0 to 65535: '65536'"),
     (("completion", "zhs"), "argument shell: 'zhs' is none of bash, zsh, fish: did you mean zsh?"),
     (("completion", "--hepl"), "the following arguments are required: shell"),
-    (("chek", "a.yml"), "argument COMMAND: 'chek' is none of check, format, lint, lsp, serve, completion: did you mean check?"),
+    (("chek", "a.yml"), "argument COMMAND: 'chek' is none of check, format, lint, metrics, lsp, serve, completion: did you mean check?"),
     (("--verson",), "no option is called --verson: did you mean --version?"),
     (("check", "\x1b]0;x\x07", "--\x1b"), "no option is called --\\x1b"),
     ((), "no COMMAND is named"),
@@ -105,7 +108,7 @@ class OverFiles(Folder):
     def test_files(self):
         """Several files, a folder, and standard input, whose name is `-`."""
         fine, wrong = self.file(FINE), self.file(WRONG, "b.yml")
-        for words, rejected in zip(OVER_FILES, (4, 4, 1)):
+        for words, rejected in zip(OVER_FILES, (4, 4, 1, 4)):
             self.assertEqual(run(*words, fine, fine).status, 0, words)
             for files in ((fine, wrong), (wrong, fine), (self.folder,)):
                 ran = run(*words, *files)
@@ -127,11 +130,11 @@ class OverFiles(Folder):
     def test_places(self):
         """What is wrong in a file has its place, also what keeps it from being read."""
         for text, status, place in (
-            (WRONG, (4, 4, 1), "5:16"),
-            (RULE.encode() + b"'\xe9'\n", (3, 3, 3), "5:12"),
-            ("\ufeff".encode() + b"groups: \xe9\n", (3, 3, 3), "1:9"),
-            ("groups: [\n", (2, 2, 2), "2:1"),
-            ("groups:\n- a: b: c\n", (2, 2, 2), "2:7"),
+            (WRONG, (4, 4, 1, 4), "5:16"),
+            (RULE.encode() + b"'\xe9'\n", (3, 3, 3, 3), "5:12"),
+            ("\ufeff".encode() + b"groups: \xe9\n", (3, 3, 3, 3), "1:9"),
+            ("groups: [\n", (2, 2, 2, 2), "2:1"),
+            ("groups:\n- a: b: c\n", (2, 2, 2, 2), "2:7"),
         ):
             path = self.file(text)
             for words, wanted in zip(OVER_FILES, status):
@@ -169,7 +172,7 @@ class OverFiles(Folder):
         """The options of the programs, which come before settings."""
         self.file("[limits]\nmax-len = 5\nmax-patterns = 5\n", ".promql.toml")
         wide, long, both = ("--max-patterns", "16000"), ("--max-len=32768",), ("--max-patterns", "16000", "--max-len", "32768")
-        for words, status, within in zip(OVER_FILES, (14, 14, 1), (0, 19, 0)):
+        for words, status, within in zip(OVER_FILES, (14, 14, 1, 14), (0, 19, 0, 0)):
             for number, options in enumerate((wide, long, both)):
                 ran = run(*words, *options, self.file(RULE + f"up{{a=~'{words[0]}{number}.+'}} == 0\n"))
                 self.assertEqual((ran.status, " too l" in ran.err + ran.out), (within, False) if options == both else (status, True))

@@ -6,7 +6,7 @@ import tracemalloc
 import unittest
 
 from hostile import answering, http
-from promql.prometheus_api import ApiBounds, ApiError, NotAskedError, PrometheusApi, RefusedError
+from promql.prometheus_api import ApiBounds, ApiError, PrometheusApi, RefusedError
 
 SHORT = ApiBounds(request_timeout=0.4, server_timeout=5, max_answer=65_536)
 
@@ -150,12 +150,12 @@ class Api(unittest.TestCase):
         with answering(http('{"status":"success","data":1}')) as server:
             api = PrometheusApi(server.url, ApiBounds(max_requests=2))
             self.assertEqual([api.get("x"), api.get("x")], [1, 1])
-            with self.assertRaisesRegex(NotAskedError, r"more than 2 requests \(--max-requests\)"):
+            with self.assertRaisesRegex(ApiError, r"more than 2 requests \(--max-requests\)"):
                 api.get("x")
             late = PrometheusApi(server.url, ApiBounds(server_timeout=0.05))
             late.get("x")
             time.sleep(0.1)
-            with self.assertRaisesRegex(NotAskedError, r"the requests take more than 0.05 s \(--server-timeout\)"):
+            with self.assertRaisesRegex(ApiError, r"the requests take more than 0.05 s \(--server-timeout\)"):
                 late.get("x")
         self.assertEqual(len(server.asked), 3)
 

@@ -17,7 +17,6 @@ from ..documents import Document
 from ..files import BLANKS, BoundError, Fault, FileError, Source
 from ..placed_files import PlacedSpelling
 from ..queries import Edit, Query, edited
-from ..rule_documents import Kind
 from ..rule_files import RuleFile
 from ..scalars import Scalar
 from . import found_in
@@ -115,7 +114,8 @@ class FileLinter:
             except RecursionError:
                 self.left.append(query.whole("not looked at: nested too deeply for the linter"))
             except BoundError:
-                self._leave_from(query)
+                message = f"not looked at from here on: the queries of the file have more than {self._budget.most:,} tokens together"
+                self.left.append(query.whole(f"{message} (--max-lint-tokens)"))
                 break
             except ValueError as error:
                 self.left.append(checker.rejected(query, error))
@@ -124,33 +124,9 @@ class FileLinter:
             found += self._unused_comments()
         return sorted(found, key=lambda it: (it.start, it.end, it.finding.code, it.finding.message))
 
-    def _leave_from(self, query: Query) -> None:
-        message = f"not looked at from here on: the queries of the file have more than {self._budget.most:,} tokens together"
-        self.left.append(query.whole(f"{message} (--max-lint-tokens)"))
-
-    def accepted(self) -> Iterator[Query]:
-        """The queries that are accepted, as far as the bound of tokens goes, but for those of unit tests."""
-        has_tests = isinstance(self._document, RuleFile) and any(it.kind is Kind.TESTS for it in self._document.documents)
-        checker = self._document.checker
-        for query in self._document.queries:
-            is_right = not query.skipped and checker.admits(query.text) and not checker.error(query.text)
-            if not is_right or has_tests and not self._rules_with(query):
-                continue
-            try:
-                take(query.text, self._budget)
-            except BoundError:
-                self._leave_from(query)
-                return
-            yield query
-
     def silenced(self, query: Query) -> FrozenSet[str]:
         """The codes that comments silence of a query in all rules that have it."""
         return frozenset.intersection(*(ignored.codes for _, ignored in self._contexts(query))) | ignored_in(query.text).codes
-
-    @property
-    def recorded(self) -> FrozenSet[str]:
-        """The metrics that the rules of the file record."""
-        return frozenset(it.context.record for rules in self._rules.values() for it in rules) - {""}
 
     def _look_at_query(self, query: Query) -> List[Finding]:
         """What is found in a query, for each of the rules that have it."""
@@ -214,12 +190,9 @@ class FileLinter:
 
     def _places(self, query: Query) -> List[Tuple[RuleContext, int, int]]:
         """The rules that have a query, and where they are."""
-        rules = [(it.context, it.start, it.end) for it in self._rules_with(query)]
-        return rules or [(RuleContext(), query.offsets[0], query.offsets[-1])]
-
-    def _rules_with(self, query: Query) -> Sequence[RulePlace]:
         end = query.spelling.end if isinstance(query.spelling, (Scalar, PlacedSpelling)) else -1
-        return self._rules.get(end, ())
+        rules = [(it.context, it.start, it.end) for it in self._rules.get(end, ())]
+        return rules or [(RuleContext(), query.offsets[0], query.offsets[-1])]
 
     @staticmethod
     def _is_written(query: Query) -> IsWritten:
