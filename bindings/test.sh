@@ -637,11 +637,17 @@ test_prometheus() {
     has prometheus 'queries before a Prometheus' || return
     has promtool 'queries before a Prometheus' || return
     has python3 'queries before a Prometheus' || return
+    local python
     add 'queries before a Prometheus' in_python "$here/python" "$root/bench/meaning/compare.py" --rows 500 --random 500
     add 'the linter before a Prometheus' in_python "$here/python" "$root/bench/meaning/lint.py" 500
     add 'places of errors before a Prometheus' in_python "$here/python" "$root/bench/places/prometheus.py"
     add 'classes of meanings before a Prometheus' in_python "$here/python" "$root/bench/targets/meanings.py" --made 300 --changed 200
     add 'kinds of verdicts before a Prometheus' in_python "$here/python" "$root/bench/targets/verdicts.py" --count 5000
+    if python=$(python_with_yaml); then
+        python=$python add 'selectors and metrics before a Prometheus' in_python "$here/python" "$here/live.py"
+    else
+        echo 'not tried: selectors and metrics before a Prometheus: no Python here has ruamel.yaml'
+    fi
 }
 
 # The servers and the proxies are in the group of processes that `limited` ends.
