@@ -4,7 +4,7 @@ from __future__ import annotations
 
 import argparse
 from functools import lru_cache
-from typing import FrozenSet, Iterator, List, NamedTuple, Optional, Sequence, Tuple
+from typing import FrozenSet, Iterator, List, NamedTuple, Sequence, Tuple
 
 from . import tree
 from .documents import Document, Status, accepted, recorded_in
@@ -91,8 +91,9 @@ def _readings(document: Document, query: Query) -> Iterator[Reading]:
         if isinstance(node, (tree.Selector, tree.RangeSelector)):
             names = [node.name or "", *(it.value for it in node.matchers if it.name == NAME)]
             selector = tree.Selector(node.name, tuple(it for it in node.matchers if _is_written(query, it.name, it.value)))
-            if not node.or_matchers and _is_written(query, *names) and _text(selector):
-                yield Reading(_text(selector), selector, 0 if query.variables else window, _at(document, query, place), choice)
+            text = "" if node.or_matchers or not _is_written(query, *names) else _text(selector)
+            if text:
+                yield Reading(text, selector, 0 if query.variables else window, _at(document, query, place), choice)
         elif not isinstance(node, tree.Call) or node.name not in _ABSENT:
             todo += [(it, window, choice) for it in reversed(node.children())]
 
@@ -112,8 +113,9 @@ def _text(selector: tree.Selector) -> str:
 class LiveChecks:
     """Asks a server about queries."""
 
-    def __init__(self, api: PrometheusApi, recorded: FrozenSet[str], most: Sequence[Optional[int]], tells_all: bool) -> None:
-        self._number, self._recorded, self._most, self._tells_all = lru_cache(maxsize=None)(api.number), recorded, most, tells_all
+    def __init__(self, api: PrometheusApi, recorded: FrozenSet[str], arguments: argparse.Namespace) -> None:
+        self._number, self._expected = lru_cache(maxsize=None)(api.number), recorded.union(_OF_ALERTS)
+        self._most_series, self._most_samples, self._tells_all = arguments.max_series, arguments.max_samples, arguments.verbose
 
     def look_at(self, query: QueryReads) -> Iterator[Message]:
         """What is found of a query. Raises ApiError where the server does not tell it."""
@@ -138,7 +140,7 @@ class LiveChecks:
         name = named.name or "".join(it.value for it in named.matchers[:1])
         there = self._count(named) if name else 0
         if name in _OF_ALERTS or name and not there:
-            return "" if name in (*_OF_ALERTS, *self._recorded) else NO_METRIC, f"there are no series of `{name}`"
+            return "" if name in self._expected else NO_METRIC, f"there are no series of `{name}`"
         about = f"`{name}` has {there:,} series, but none" if name else "there are no series"
         for matcher in selector.matchers:
             if matcher not in named.matchers and not self._count(named, matcher):
@@ -153,26 +155,24 @@ class LiveChecks:
 
     def _amounts(self, query: QueryReads) -> Iterator[Tuple[str, str]]:
         """How many series and samples a query reads, where that is too much, or all is told."""
-        if not self._tells_all and self._most == (None, None):
-            return
         read = sorted({(it.text, it.window) for it in query.readings})
-        series = sum(self._number(f"count({text})") for text in {text for text, _ in read})
-        asked = [f"sum(count_over_time({text}[{window}ms]))" if window else f"count({text})" for text, window in read]
-        samples = sum(map(self._number, asked)) if self._tells_all or self._most[1] is not None else 0
-        for code, count, most, what in zip((MANY_SERIES, MANY_SAMPLES), (series, samples), self._most, ("series", "samples")):
-            if most is not None and count > most:
-                yield code, f"it reads {count:,} {what}, more than {most:,} (--max-{what})"
+        if self._tells_all or self._most_series is not None:
+            series = sum(self._number(f"count({text})") for text in {text for text, _ in read})
+            if self._most_series is not None and series > self._most_series:
+                yield MANY_SERIES, f"it reads {series:,} series, more than {self._most_series:,} (--max-series)"
+        if self._tells_all or self._most_samples is not None:
+            asked = [f"sum(count_over_time({text}[{window}ms]))" if window else f"count({text})" for text, window in read]
+            samples = sum(map(self._number, asked))
+            if self._most_samples is not None and samples > self._most_samples:
+                yield MANY_SAMPLES, f"it reads {samples:,} samples, more than {self._most_samples:,} (--max-samples)"
         if self._tells_all:
             yield READS, f"it reads {series:,} series and {samples:,} samples"
 
 
 def live_report(api: PrometheusApi, arguments: argparse.Namespace, files: Sequence[FileReads]) -> Tuple[str, Report]:
     """What a server tells of the queries of all files, by its URL."""
-    recorded: FrozenSet[str] = frozenset().union(*(names for _, names in files))
-    checks = LiveChecks(api, recorded, (arguments.max_series, arguments.max_samples), arguments.verbose)
-    queries = [query for found, _ in files for query in found]
-    told: List[Tuple[Message, bool]] = []
-    errors = []
+    checks = LiveChecks(api, frozenset().union(*(names for _, names in files)), arguments)
+    queries, told, errors = [query for found, _ in files for query in found], [], []
     for query in queries:
         try:
             told += [(it, it.is_at_least(query.fail_on)) for it in checks.look_at(query)]

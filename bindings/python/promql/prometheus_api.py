@@ -29,7 +29,7 @@ class ApiBounds(NamedTuple):
     max_requests: int = 2_000
     request_timeout: float = 10
     server_timeout: float = 120
-    max_answer: int = 8_388_608
+    max_answer: int = 4_194_304
 
 
 class ApiError(Exception):
@@ -80,12 +80,12 @@ class PrometheusApi:
             self._error = self._error or f"more than {bounds.max_requests:,} requests (--max-requests)"
         elif now >= self._end:
             self._error = self._error or f"the requests take more than {bounds.server_timeout:g} s (--server-timeout)"
-        self._requests += 1
+        self._requests, end = self._requests + 1, min(self._end, now + bounds.request_timeout)
         try:
             if not self._error:
-                return self._asked(f"{self._path}/api/v1/{path}", urlencode(parameters, doseq=True), min(self._end, now + bounds.request_timeout))
+                return self._asked(f"{self._path}/api/v1/{path}", urlencode(parameters, doseq=True), end)
         except socket.timeout:
-            self._error = f"no answer within {time.monotonic() - now:.1f} s (--request-timeout)"
+            self._error = f"no answer within {end - now:.1f} s (--request-timeout)"
         except OSError as error:
             self._error = visible(error.strerror or str(error))
         except (HTTPException, UnicodeError) as error:

@@ -210,7 +210,7 @@ class Bounds(Asked):
         for answer, text in (
             (http("<html>", kind="text/html"), "no answer of a Prometheus, but text/html, with status 200 OK"),
             (http("", "307 Temporary Redirect"), "redirects to another place, with status 307"),
-            (http(b"x" * 10_000_000), "an answer of more than 8,388,608 bytes (--max-answer)"),
+            (http(b"x" * 10_000_000), "an answer of more than 4,194,304 bytes (--max-answer)"),
             (b"", "Remote end closed connection without response"),
             (http('{"status":"success"}'), "an answer without the value of a query"),
             (http('{"status":"success","data":{"result":"abc"}}'), "an answer without the value of a query"),
@@ -239,12 +239,12 @@ class Bounds(Asked):
 
     def test_slow(self):
         def answer(file, path, asked):
-            time.sleep(3)
+            time.sleep(8)
 
         start = time.monotonic()
         ran = self.check(rules(*(f"nope{number}" for number in range(50))), "--request-timeout", "1", answer=answer)
         self.assertIn("no answer within 1.0 s (--request-timeout); 50 of 50 queries not looked at there", ran.err)
-        self.assertEqual((ran.status, time.monotonic() - start < 2.9), (2, True))
+        self.assertEqual((ran.status, time.monotonic() - start < 7.5), (2, True))
 
         def slower(file, path, asked):
             time.sleep(0.4)
@@ -252,7 +252,7 @@ class Bounds(Asked):
 
         ran = self.check(rules(*(f"nope{number}" for number in range(50))), "--server-timeout", "1", answer=slower)
         self.assertIn("50 queries not looked at there", ran.err)
-        self.assertEqual((ran.status, len(self.asked)), (2, 3))
+        self.assertEqual((ran.status, len(self.asked) <= 3), (2, True))
 
     def test_texts(self):
         """What a server says, and what a query has, is shown without what a terminal obeys, and not at length."""

@@ -129,7 +129,7 @@ class Metrics(Folder):
             (http('{"status":"success","data":{"a":1}}'), "an answer without names of metrics"),
             (http('{"status":"success","data":["a",1]}'), "an answer without names of metrics"),
             (http('{"status":"error","error":"no match"}', "400 Bad Request"), "status 400 Bad Request: no match"),
-            (http("x" * 9_000_000), "an answer of more than 8,388,608 bytes (--max-answer)"),
+            (http("x" * 5_000_000), "an answer of more than 4,194,304 bytes (--max-answer)"),
         ):
             with self.subTest(text), answering(answer) as server:
                 made, err = self.made("--prometheus", server.url.replace("//", "//name:secret@"), status=2)

@@ -8,7 +8,7 @@ import unittest
 from hostile import answering, http
 from promql.prometheus_api import ApiBounds, ApiError, PrometheusApi, RefusedError
 
-SHORT = ApiBounds(request_timeout=0.4, server_timeout=5, max_answer=65_536)
+SHORT = ApiBounds(request_timeout=0.4, server_timeout=20, max_answer=65_536)
 
 
 def slowly(first, piece, seconds=0.02):
@@ -30,7 +30,7 @@ class Api(unittest.TestCase):
             start = time.monotonic()
             with self.assertRaises(ApiError) as caught:
                 api.get("labels")
-            self.assertLess(time.monotonic() - start, 3)
+            self.assertLess(time.monotonic() - start, 10)
         said = str(caught.exception)
         self.assertEqual(type(caught.exception), kind, said)
         self.assertTrue(said.startswith(f"{server.url}: ") and "secret" not in said, said)
@@ -152,10 +152,10 @@ class Api(unittest.TestCase):
             self.assertEqual([api.get("x"), api.get("x")], [1, 1])
             with self.assertRaisesRegex(ApiError, r"more than 2 requests \(--max-requests\)"):
                 api.get("x")
-            late = PrometheusApi(server.url, ApiBounds(server_timeout=0.05))
+            late = PrometheusApi(server.url, ApiBounds(server_timeout=1.5))
             late.get("x")
-            time.sleep(0.1)
-            with self.assertRaisesRegex(ApiError, r"the requests take more than 0.05 s \(--server-timeout\)"):
+            time.sleep(1.6)
+            with self.assertRaisesRegex(ApiError, r"the requests take more than 1.5 s \(--server-timeout\)"):
                 late.get("x")
         self.assertEqual(len(server.asked), 3)
 
