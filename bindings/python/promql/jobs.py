@@ -170,6 +170,13 @@ def work_on(
     return worst
 
 
+def facts_of(targets: List[Target], work: ConfiguredWork, arguments: argparse.Namespace) -> List[Any]:
+    """What is known of each file before something is said of it. One with which nothing can be done tells nothing here."""
+    with settings_read_anew():
+        reports = reports_of(targets, partial(_configured, work, arguments), arguments.jobs)
+        return [it.facts for it in reports if it.facts is not None]
+
+
 def _put_out(name: str, report: Report, arguments: argparse.Namespace, with_colors: bool, goes_on: bool) -> Status:
     """Puts out what is said of a file; where it can go on without an output, it returns that this failed."""
     try:

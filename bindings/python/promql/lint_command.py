@@ -9,11 +9,14 @@ from typing import Any, List, Tuple
 from .checked_queries import QueryChecker
 from .documents import Document, Skipped, Status, read_document
 from .files import STDIN, FileError, Source, counted, read_source, write_file
-from .jobs import Report, add_arguments, as_bytes, bounds_of, failed, skipped_file, work_on
+from .jobs import Report, add_arguments, as_bytes, bounds_of, facts_of, failed, skipped_file, work_on
 from .lint.file_findings import FileFinding, FileLinter, fault_of
 from .lint.given_queries import GivenQuery
+from .lint.records import SharedRecords
+from .lint.rule_places import recorded_rules
 from .lint.table import RULES, Selection, help_of, name_of, unknown_words
 from .messages import ERROR, RULE, UNREAD, Message, left_out, listed, placed, region_of, skipped_queries
+from .rule_files import RuleFile
 from .targets import Target, targets_of
 from .visible import visible
 
@@ -45,7 +48,16 @@ def _run(arguments: argparse.Namespace) -> int:
     targets = [Target(f"<query {number}>", query=query) for number, query in enumerate(arguments.query, 1)]
     targets += targets_of(arguments.files, arguments.dashboard)
     targets = targets or [Target(STDIN)]
+    # (standard input is read once, and what one file records is known when it is read)
+    is_alone = len({it.name for it in targets if it.query is None}) < 2 or any(it.name == STDIN for it in targets)
+    arguments.shared = None if is_alone else SharedRecords(facts_of(targets, _records_in, arguments))
     return work_on(targets, _lint_file, arguments, goes_on=arguments.fix)
+
+
+def _records_in(arguments: argparse.Namespace, target: Target) -> Report:
+    """What the rules of a file record, in a first look at it."""
+    document = None if target.query is not None else read_document(target, arguments.dashboard, bounds=bounds_of(arguments))
+    return Report(Status.FINE, b"", [], facts=(target.name, recorded_rules(document)) if isinstance(document, RuleFile) else None)
 
 
 def _print_rules() -> int:
@@ -79,7 +91,7 @@ def _lint_file(arguments: argparse.Namespace, target: Target) -> Report:
 
 def _fix_file(arguments: argparse.Namespace, selection: Selection, target: Target, document: Document) -> Report:
     """Writes the file, or prints it where it is none, and reports what is left."""
-    linter = FileLinter(document, selection)
+    linter = FileLinter(document, selection, shared=arguments.shared)
     text, count = linter.fixed()
     source = document.source
     if isinstance(document, GivenQuery):
@@ -100,7 +112,7 @@ def _fix_file(arguments: argparse.Namespace, selection: Selection, target: Targe
 
 def _report(arguments: argparse.Namespace, document: Document, selection: Selection, notes: List[str]) -> Report:
     source = document.source
-    linter = FileLinter(document, selection)
+    linter = FileLinter(document, selection, shared=arguments.shared)
     found = linter.findings()
     status = Status.FAILED if linter.left else Status.FINE
     messages = list(left_out(document, arguments.verbose))

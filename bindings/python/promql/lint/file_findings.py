@@ -25,6 +25,7 @@ from .findings import Finding, Fix, Severity, Span, TextEdit, Tree
 from .fixes import all_fixed, edited_query
 from .given_queries import GivenQuery
 from .known_looks import LOOKS, KnownLooks, take
+from .records import SharedRecords
 from .rule_places import MOST_INTERVALS, RulePlace, rules_of
 from .silence import Comment, Silences
 from .subject import IsWritten, RuleContext, always
@@ -63,8 +64,16 @@ class FileFinding(NamedTuple):
 class FileLinter:
     """Looks at the queries of one file."""
 
-    def __init__(self, document: Document, selection: Selection, looks: KnownLooks = LOOKS, has_fixes: bool = True) -> None:
+    def __init__(
+        self,
+        document: Document,
+        selection: Selection,
+        looks: KnownLooks = LOOKS,
+        has_fixes: bool = True,
+        shared: Optional[SharedRecords] = None,
+    ) -> None:
         self._document = document
+        self._shared = shared
         self._selection = selection
         self._looks = looks
         self._has_fixes = has_fixes
@@ -86,11 +95,11 @@ class FileLinter:
 
     def _take_rules(self, file: RuleFile) -> None:
         budget = Budget(self._budget.most)
-        found = rules_of(file, budget)
+        found = rules_of(file, budget, self._shared)
         for rule in found.places:
             self._rules.setdefault(rule.query_end, []).append(rule)
         for text in file.texts:
-            for rule in rules_of(text.document, budget).places if isinstance(text.document, RuleFile) else ():
+            for rule in rules_of(text.document, budget, self._shared).places if isinstance(text.document, RuleFile) else ():
                 placed = RulePlace(text.at(rule.start), text.at(rule.end), text.at(rule.query_end), rule.context)
                 self._rules.setdefault(placed.query_end, []).append(placed)
         message = f"its aliases are in groups of more than {MOST_INTERVALS} intervals: the rule is looked at with {MOST_INTERVALS} of these"

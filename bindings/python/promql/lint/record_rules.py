@@ -16,7 +16,7 @@ def recorded_twice(subject: Subject) -> Iterator[Remark]:
     if first is not None:
         is_one_series = labels.only == frozenset() == subject.context.records.labels_in(first).only
         if is_one_series or first.split() == subject.text.split():
-            yield Remark(subject.whole, f"another rule of this file records `{subject.context.record}` with the same labels")
+            yield Remark(subject.whole, f"another rule of {subject.context.records.where} records `{subject.context.record}` with the same labels")
 
 
 @rule("P702", "recorded-in-circle", Severity.WARNING)
@@ -33,9 +33,9 @@ def recorded_in_circle(subject: Subject) -> Iterator[Remark]:
 
 @rule("P703", "not-recorded", Severity.WARNING)
 def not_recorded(subject: Subject) -> Iterator[Remark]:
-    """An alert on a metric that no rule of the file records, while one records another operation on the same."""
+    """An alert on a metric that no rule of the files records, while its name says so."""
     for node in subject.selectors if subject.context.alert else ():
         name = subject.metric(node)
-        other = subject.context.records.like(name) if name else None
-        if other:
-            yield Remark(subject.head(node), f"no rule of this file records `{name}`, and one records `{other}`")
+        message = subject.context.records.why_not(name) if name else ""
+        if message:
+            yield Remark(subject.head(node), message)

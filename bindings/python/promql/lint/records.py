@@ -3,7 +3,7 @@
 from __future__ import annotations
 
 import re
-from typing import Callable, Dict, FrozenSet, Iterable, List, NamedTuple, Optional, Set, Tuple
+from typing import Callable, Dict, FrozenSet, Iterable, List, NamedTuple, Optional, Sequence, Set, Tuple
 
 import promql
 
@@ -30,7 +30,11 @@ class RecordedRule(NamedTuple):
 class Records:
     """The metrics that a file records. A query is given to `take` before it is read."""
 
-    def __init__(self, rules: Iterable[RecordedRule] = (), take: Callable[[str], None] = lambda query: None) -> None:
+    def __init__(
+        self, rules: Iterable[RecordedRule] = (), take: Callable[[str], None] = lambda query: None, where: str = "this file"
+    ) -> None:
+        # Where the rules are, in messages.
+        self.where = where
         self._rules: Dict[str, List[RecordedRule]] = {}
         for rule in rules:
             self._rules.setdefault(rule.name, []).append(rule)
@@ -45,6 +49,8 @@ class Records:
             self._reads[name] = self._named_by(name) & self._rules.keys()
         self.circle = _in_circles(self._reads)
         self._found: Dict[str, Optional[Labels]] = dict.fromkeys(self.circle)
+        # Of the queries that were read.
+        self._known: Dict[str, Labels] = {}
 
     def _named_by(self, name: str) -> Set[str]:
         tokens = (token for rule in self._rules[name] for token in tokens_of(rule.query))
@@ -53,7 +59,7 @@ class Records:
     def key_of(self, query: str) -> Optional[int]:
         """What tells these metrics from those of another file, where a query may read one of them."""
         names = _WORD.findall(query) if self._rules else ()
-        is_near = any(name in self._rules or _stem(name) in self._stems for name in names) or names and "\\" in query
+        is_near = any(name in self._rules or self.why_not(name) for name in names) or names and "\\" in query
         return self._hash if is_near else None
 
     def labels_of(self, name: str) -> Optional[Labels]:
@@ -82,15 +88,21 @@ class Records:
 
     def labels_in(self, query: str) -> Labels:
         """The labels of the series of a query; any, where it is rejected."""
-        self._take(query)
-        try:
-            return LabelFlow(self._found.get).of(promql.parse(query))
-        except ValueError:
-            return Labels()
+        if query not in self._known:
+            self._take(query)
+            try:
+                self._known[query] = LabelFlow(self._found.get).of(promql.parse(query))
+            except (RecursionError, ValueError):
+                self._known[query] = Labels()
+        return self._known[query]
 
-    def like(self, name: str) -> Optional[str]:
-        """A metric that differs by the operation at the end of its name from this one, which is not recorded."""
-        return None if name in self._rules else self._stems.get(_stem(name))
+    def why_not(self, name: str) -> str:
+        """That a metric is not recorded which most likely is meant to be, since one is that differs by the operation at the end of its
+        name, or, where several files are known, since its name is that of a recorded one; or nothing."""
+        if name in self._rules or not self._rules:
+            return ""
+        other, message = self._stems.get(_stem(name)), f"no rule of {self.where} records `{name}`"
+        return f"{message}, and one records `{other}`" if other else message if name.count(":") == 2 and self.where != "this file" else ""
 
 
 def _stem(name: str) -> str:
@@ -120,32 +132,49 @@ def _without_ends(ahead: Dict[str, Set[str]], back: Dict[str, Set[str]]) -> Froz
 
 
 NO_RECORDS = Records()
+# A metric and the labels that its rule gives.
+SeriesKey = Tuple[str, Optional[FrozenSet[Tuple[str, str]]]]
+
+
+class SharedRecords:
+    """What the rules of several files record, in their order."""
+
+    def __init__(self, files: Iterable[Tuple[str, Sequence[RecordedRule]]]) -> None:
+        found = [(name, rule) for name, rules in files for rule in rules]
+        self.records = Records((rule for _, rule in found), where="these files")
+        # The file and the query of the first rule that records a series.
+        self.first: Dict[SeriesKey, Tuple[str, str]] = {(it.name, it.labels): (name, it.query) for name, it in reversed(found)}
 
 
 class RecordsReader:
     """Reads the rules of the groups of a file that record."""
 
-    def __init__(self, mappings: Mappings, groups: Iterable[Node], take: Callable[[str], None]) -> None:
+    def __init__(
+        self, mappings: Mappings, groups: Iterable[Node], take: Callable[[str], None], file: str = "", shared: Optional[SharedRecords] = None
+    ) -> None:
         self._mappings = mappings
         self._labels: Dict[int, FrozenSet[Tuple[str, str]]] = {}
         found = [(mappings.value(group, "rules"), mappings.value(group, "labels")) for group in groups]
         with_labels = {id(items) for items, labels in found if labels}
         lists = {id(items): items for items, _ in found}
-        self._rules: Dict[int, RecordedRule] = {}
+        self.rules: Dict[int, RecordedRule] = {}
         for items in lists.values():
             for rule in mappings_in(items):
                 name, query, labels = (mappings.value(rule, key) for key in ("record", "expr", "labels"))
                 if name and query and name.is_scalar() and query.is_scalar():
                     given = None if id(items) in with_labels else self._labels_in(labels)
-                    self._rules[id(rule)] = RecordedRule(str(name.value), str(query.value), given)
-        self.records = Records(self._rules.values(), take)
+                    self.rules[id(rule)] = RecordedRule(str(name.value), str(query.value), given)
+        self.records = shared.records if shared else Records(self.rules.values(), take)
         # The queries of rules before others, by these, that record the same metric with the same labels.
         self.same: Dict[int, str] = {}
-        first: Dict[object, str] = {}
-        for node, it in self._rules.items():
-            if (it.name, it.labels) in first and it.labels is not None:
-                self.same[node] = first[it.name, it.labels]
-            first.setdefault((it.name, it.labels), it.query)
+        first: Dict[SeriesKey, str] = {}
+        for node, it in self.rules.items():
+            key = it.name, it.labels
+            where, text = shared.first.get(key, (file, "")) if shared else (file, "")
+            same = text if where != file else first.get(key)
+            if same is not None and it.labels is not None:
+                self.same[node] = same
+            first.setdefault(key, it.query)
 
     def _labels_in(self, owner: Optional[Node]) -> FrozenSet[Tuple[str, str]]:
         if owner and owner.kind == "mapping" and id(owner) not in self._labels:

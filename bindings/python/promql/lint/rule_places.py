@@ -9,13 +9,14 @@ from typing import Dict, FrozenSet, Iterator, List, NamedTuple, Optional, Set, T
 import promql
 
 from ..checked_queries import Budget
+from ..files import BoundError
 from ..rule_checks import DURATION, MILLISECONDS, mappings_in
 from ..rule_documents import Kind
 from ..rule_files import RuleFile
 from ..yaml_mappings import Mappings
 from ..yaml_nodes import Node
 from .known_looks import take
-from .records import RecordsReader
+from .records import RecordedRule, RecordsReader, SharedRecords
 from .subject import RuleContext
 
 _LABEL = re.compile(r"\$labels\.([A-Za-z_]\w*)", re.ASCII)
@@ -57,19 +58,36 @@ class RulePlaces(NamedTuple):
     cut: List[int]
 
 
-def rules_of(file: RuleFile, budget: Budget) -> RulePlaces:
+def rules_of(file: RuleFile, budget: Budget, shared: Optional[SharedRecords] = None) -> RulePlaces:
     """The rules of a file that have queries. Each is there once for all its aliases in groups of one interval. The budget is that of the
-    queries that are read to find the labels of recorded metrics."""
+    queries that are read to find the labels of recorded metrics, where those of several files are not known."""
+    records = RecordsReader(file.mappings, _groups(file), partial(take, budget=budget), file.source.name, shared)
+    return _Reader(file.mappings, _groups(file), records).read()
+
+
+def _groups(file: RuleFile) -> List[Node]:
     documents = [it for it in file.documents if it.kind is Kind.RULES]
-    groups = {id(group): group for it in documents for group in it.groups(file.mappings) if group.kind == "mapping"}
-    return _Reader(file.mappings, list(groups.values()), budget).read()
+    return list({id(group): group for it in documents for group in it.groups(file.mappings) if group.kind == "mapping"}.values())
+
+
+def recorded_rules(file: RuleFile) -> List[RecordedRule]:
+    """The rules of a file and of its texts that record, without the labels of those beyond the bound of tokens."""
+    files, budget, found = [file, *(it.document for it in file.texts)], Budget(file.checker.bounds.max_lint_tokens), []
+    for one in files:
+        for rule in RecordsReader(one.mappings, _groups(one), lambda query: None).rules.values() if isinstance(one, RuleFile) else ():
+            try:
+                take(rule.query, budget)
+            except BoundError:
+                rule = rule._replace(labels=None)
+            found.append(rule)
+    return found
 
 
 class _Reader:
-    def __init__(self, mappings: Mappings, groups: List[Node], budget: Budget) -> None:
+    def __init__(self, mappings: Mappings, groups: List[Node], records: RecordsReader) -> None:
         self._mappings = mappings
         self._groups = groups
-        self._records = RecordsReader(mappings, groups, partial(take, budget=budget))
+        self._records = records
         # What templates name in labels and annotations, by their node, and what those of a rule show, by both nodes.
         self._named: Dict[int, _Named] = {}
         self._shown: Dict[Tuple[int, int], FrozenSet[str]] = {}
