@@ -41,9 +41,10 @@ class RefusedError(ApiError):
 
 
 class PrometheusApi:
-    """A server at `http://HOST:PORT/PATH`. It is asked directly, by no proxy of the environment, and no redirect is followed."""
+    """A server at `http://HOST:PORT/PATH`. It is asked directly, by no proxy of the environment, and no redirect is followed. It is told
+    who asks by `NAME:PASSWORD`, which may also be in the URL, or by a token."""
 
-    def __init__(self, url: str, bounds: ApiBounds = ApiBounds(), authorization: str = "") -> None:
+    def __init__(self, url: str, bounds: ApiBounds = ApiBounds(), secret: str = "") -> None:
         try:
             parts = urlsplit(url)
             self.host, self._port = parts.hostname or "", parts.port
@@ -54,9 +55,11 @@ class PrometheusApi:
         self._is_secure, self._path = parts.scheme == "https", parts.path.rstrip("/")
         # As it is shown.
         self.url = visible(f"{parts.scheme}://{parts.netloc.rpartition('@')[2]}{self._path}")
-        if parts.username is not None and not authorization:
-            authorization = _basic(unquote(parts.username), unquote(parts.password or ""))
-        self._headers = {"Accept": "application/json", **({"Authorization": authorization} if authorization else {})}
+        if parts.username is not None and not secret:
+            secret = f"{unquote(parts.username)}:{unquote(parts.password or '')}"
+        known = base64.b64encode(secret.encode("utf-8", "surrogateescape")).decode()
+        known = f"Basic {known}" if ":" in secret else f"Bearer {secret}"
+        self._headers = {"Accept": "application/json", **({"Authorization": known} if secret else {})}
         self._bounds = bounds
         self._requests, self._end = 0, 0.0
         # Why nothing is asked any more.
@@ -150,10 +153,6 @@ def _said(text: str) -> str:
     return visible(text[:_LONGEST_SAID]) + "…" * (len(text) > _LONGEST_SAID)
 
 
-def _basic(user: str, password: str) -> str:
-    return f"Basic {base64.b64encode(f'{user}:{password}'.encode()).decode()}"
-
-
 def add_server_arguments(parser: Any, use: str) -> None:
     """The options that name a server, and what is asked of it."""
     seconds, most = partial(whole_number, least=1, most=_MOST_SECONDS), ApiBounds()
@@ -173,8 +172,7 @@ def api_of(arguments: argparse.Namespace) -> Optional[PrometheusApi]:
         secret = read_source(arguments.prometheus_credentials).text.rstrip("\r\n") if arguments.prometheus_credentials else ""
         if not secret.isascii() or not secret.isprintable():
             raise ApiError(f"{arguments.prometheus_credentials}: not one line of printable characters of ASCII")
-        authorization = _basic(*secret.split(":", 1)) if ":" in secret else f"Bearer {secret}" if secret else ""
-        return PrometheusApi(arguments.prometheus, ApiBounds(*(getattr(arguments, it) for it in ApiBounds._fields)), authorization)
+        return PrometheusApi(arguments.prometheus, ApiBounds(*(getattr(arguments, it) for it in ApiBounds._fields)), secret)
     except (ApiError, FileError) as error:
         arguments.wrong(str(error))
     return None

@@ -57,7 +57,7 @@ class Api(unittest.TestCase):
     def test_credentials(self):
         with answering(http('{"status":"success","data":1}')) as server:
             PrometheusApi(server.url.replace("//", "//me:w%40rd@")).get("x")
-            PrometheusApi(server.url, authorization="Bearer abc").get("x")
+            PrometheusApi(server.url, secret="abc").get("x")
             PrometheusApi(server.url).get("x")
         self.assertEqual([it[3].get("authorization") for it in server.asked], ["Basic bWU6d0ByZA==", "Bearer abc", None])
 
