@@ -3,6 +3,7 @@
 from __future__ import annotations
 
 import argparse
+import os
 from dataclasses import replace
 from typing import Any, List, Tuple
 
@@ -48,8 +49,9 @@ def _run(arguments: argparse.Namespace) -> int:
     targets = [Target(f"<query {number}>", query=query) for number, query in enumerate(arguments.query, 1)]
     targets += targets_of(arguments.files, arguments.dashboard)
     targets = targets or [Target(STDIN)]
-    # (standard input is read once, and what one file records is known when it is read)
-    is_alone = len({it.name for it in targets if it.query is None}) < 2 or any(it.name == STDIN for it in targets)
+    files = [it.name for it in targets if it.query is None]
+    # (standard input and pipes are read once, and what one file records is known when it is read)
+    is_alone = len(set(files)) < 2 or any(it == STDIN or os.path.exists(it) and not os.path.isfile(it) for it in files)
     arguments.shared = None if is_alone else SharedRecords(facts_of(targets, _records_in, arguments))
     return work_on(targets, _lint_file, arguments, goes_on=arguments.fix)
 

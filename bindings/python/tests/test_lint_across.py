@@ -2,6 +2,7 @@
 
 import json
 import os
+import threading
 import time
 
 from command_line import run
@@ -74,11 +75,18 @@ class Across(Folder):
         self.assertEqual(self.found(status=0), [])
 
     def test_alone(self):
-        """Standard input, and queries that are given, are looked at by themselves."""
+        """Standard input and pipes, which are read once, and queries that are given are looked at by themselves."""
         path = self.file(rules(("job:a:sum", "sum by (job) (a)")))
         ran = run("lint", "--select", "P7", path, "-", stdin=rules(("A", "job:x:sum > 5")).encode())
         self.assertEqual(ran.status, 0, ran.out)
         self.assertEqual(run("lint", "--select", "P7", "--query", "job:x:sum > 5", path).status, 0)
+        pipe = self.folder / "pipe.yml"
+        os.mkfifo(pipe)
+        writer = threading.Thread(target=pipe.write_text, args=(rules(("job:x:sum", "job:x:sum > 5")),))
+        writer.start()
+        self.addCleanup(writer.join)
+        ran = run("lint", "--select", "P7", path, pipe)
+        self.assertIn(f"{pipe}: 1 rule, 1 finding", ran.out)
 
     def test_others(self):
         """Files that cannot be read, ConfigMaps, dashboards, and what comments and settings silence."""
