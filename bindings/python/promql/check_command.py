@@ -16,6 +16,9 @@ from .prometheus_api import add_server_arguments, api_of
 from .targets import Target, targets_of
 from .visible import visible
 
+# The module that asks a server, which needs the linter.
+_LIVE = "promql.live_checks"
+
 
 def add_parser(subparsers: Any) -> None:
     parser = subparsers.add_parser("check", help="check the queries of rule files and dashboards", description=__doc__)
@@ -46,13 +49,8 @@ def _variable(text: str) -> Tuple[str, str]:
 
 def _run(arguments: argparse.Namespace) -> int:
     api = api_of(arguments)
-    at_end = partial(_live_checks().live_report, api, arguments) if api else None
+    at_end = partial(import_module(_LIVE).live_report, api, arguments) if api else None
     return work_on(targets_of(arguments.files, arguments.dashboard), _check_file, arguments, at_end=at_end)
-
-
-def _live_checks() -> Any:
-    """The module that asks a server, which needs the linter."""
-    return import_module(".live_checks", __package__)
 
 
 def rejections(document: Document, others: Sequence[Fault] = ()) -> Tuple[int, List[Message]]:
@@ -74,7 +72,7 @@ def _check_file(arguments: argparse.Namespace, target: Target) -> Report:
     source = document.source
     count, said = rejections(document, others)
     said += [placed(source, fault, WARNING, RULE, source.located(fault)) for fault in listed(warnings, "warnings")]
-    facts, left = _live_checks().reads_of(document, arguments) if arguments.prometheus else (None, [])
+    facts, left = import_module(_LIVE).reads_of(document, arguments) if arguments.prometheus else (None, [])
     said = in_order([*said, *left, *left_out(document, arguments.verbose), *skipped_queries(document, True)])
     parts = [document.summary(), counted(count, "error", "errors")]
     skipped = sum(1 for query in document.queries if query.skipped)

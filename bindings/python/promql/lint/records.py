@@ -30,11 +30,10 @@ class RecordedRule(NamedTuple):
 class Records:
     """The metrics that a file records. A query is given to `take` before it is read."""
 
-    def __init__(
-        self, rules: Iterable[RecordedRule] = (), take: Callable[[str], None] = lambda query: None, where: str = "this file"
-    ) -> None:
-        # Where the rules are, in messages.
-        self.where = where
+    # Where the rules are, in messages.
+    where = "this file"
+
+    def __init__(self, rules: Iterable[RecordedRule] = (), take: Callable[[str], None] = lambda query: None) -> None:
         self._rules: Dict[str, List[RecordedRule]] = {}
         for rule in rules:
             self._rules.setdefault(rule.name, []).append(rule)
@@ -141,7 +140,8 @@ class SharedRecords:
 
     def __init__(self, files: Iterable[Tuple[str, Sequence[RecordedRule]]]) -> None:
         found = [(name, rule) for name, rules in files for rule in rules]
-        self.records = Records((rule for _, rule in found), where="these files")
+        self.records = Records(rule for _, rule in found)
+        self.records.where = "these files"
         # The file and the query of the first rule that records a series.
         self.first: Dict[SeriesKey, Tuple[str, str]] = {(it.name, it.labels): (name, it.query) for name, it in reversed(found)}
 
