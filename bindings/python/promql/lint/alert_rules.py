@@ -11,7 +11,7 @@ from .table import rule
 from .trees import inner, is_comparison
 
 
-@rule("P501", "alert-without-condition", Severity.WARNING)
+@rule("P501", "alert-without-condition", Severity.WARNING, needs="alert")
 def alert_without_condition(subject: Subject) -> Iterator[Remark]:
     """An alert whose query has a value as long as its series are there."""
     if subject.context.alert and not _is_meant_to_fire(subject.tree) and not has_condition(subject.tree):
@@ -20,7 +20,7 @@ def alert_without_condition(subject: Subject) -> Iterator[Remark]:
             yield Remark(subject.whole, message)
 
 
-@rule("P502", "bool-in-alert", Severity.ERROR)
+@rule("P502", "bool-in-alert", Severity.ERROR, needs="alert")
 def bool_in_alert(subject: Subject) -> Iterator[Remark]:
     """An alert that fires for 0 as for 1."""
     node = inner(subject.tree)
@@ -31,7 +31,7 @@ def bool_in_alert(subject: Subject) -> Iterator[Remark]:
     yield Remark(span, "the alert fires always: with `bool` a comparison has the value 0 where it is false")
 
 
-@rule("P503", "lost-template-label", Severity.WARNING)
+@rule("P503", "lost-template-label", Severity.WARNING, needs="alert")
 def lost_template_label(subject: Subject) -> Iterator[Remark]:
     """A label that a template of the alert shows, and that its series cannot have."""
     if not subject.context.alert or not subject.context.template_labels:

@@ -93,6 +93,9 @@ class FileLinter:
             for rule in rules_of(text.document, budget).places if isinstance(text.document, RuleFile) else ():
                 placed = RulePlace(text.at(rule.start), text.at(rule.end), text.at(rule.query_end), rule.context)
                 self._rules.setdefault(placed.query_end, []).append(placed)
+        if not budget.takes(0):
+            message = f"not looked for: all rules in a circle, of which the queries have more than {budget.most:,} tokens (--max-lint-tokens)"
+            self.left.append(Fault(0, 0, message))
         message = f"its aliases are in groups of more than {MOST_INTERVALS} intervals: the rule is looked at with {MOST_INTERVALS} of these"
         self.left += [Fault(at, at, message) for at in found.cut]
 

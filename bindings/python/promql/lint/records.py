@@ -7,6 +7,7 @@ from typing import Callable, Dict, FrozenSet, Iterable, List, NamedTuple, Option
 
 import promql
 
+from ..files import BoundError
 from ..rule_checks import mappings_in
 from ..token_texts import tokens_of
 from ..yaml_mappings import Mappings
@@ -47,8 +48,15 @@ class Records:
         self._found: Dict[str, Optional[Labels]] = dict.fromkeys(self.circle)
 
     def _named_by(self, name: str) -> Set[str]:
-        tokens = (token for rule in self._rules[name] for token in tokens_of(rule.query))
-        return {token.text for token in tokens if token.kind not in ("comment", "string")}
+        """The words of the queries of a metric, as far as they may be read."""
+        found: Set[str] = set()
+        for query in dict.fromkeys(rule.query for rule in self._rules[name]):
+            try:
+                self._take(query)
+            except BoundError:
+                break
+            found.update(token.text for token in tokens_of(query) if token.kind not in ("comment", "string"))
+        return found
 
     def key_of(self, query: str) -> Optional[int]:
         """What tells these metrics from those of another file, where a query may read one of them."""
