@@ -5,7 +5,6 @@ from __future__ import annotations
 import json
 import re
 import sys
-from dataclasses import replace
 from typing import Any, Iterator, List, Mapping, NamedTuple, Optional, Tuple
 
 from .checked_queries import Budget, QueryChecker
@@ -73,7 +72,7 @@ class Dashboard:
         return [], []
 
     def same(self, text: str, same_query: SameQuery) -> bool:
-        source, most = replace(self.source, text=text), self.checker.bounds.max_file_nodes
+        source, most = self.source.with_text(text), self.checker.bounds.max_file_nodes
         _load(source)
         old, new = list(_json_tokens(self.source, most)), list(_json_tokens(source, most))
         return len(old) == len(new) and all(_same(*pair, same_query) for pair in zip(old, new))

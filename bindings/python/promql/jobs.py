@@ -3,12 +3,10 @@
 from __future__ import annotations
 
 import argparse
-import multiprocessing
 import os
 import sys
 from functools import partial
-from multiprocessing.connection import Connection
-from typing import Any, Callable, Iterator, List, NamedTuple, Optional, Sequence
+from typing import TYPE_CHECKING, Any, Callable, Iterator, List, NamedTuple, Optional, Sequence
 
 from . import colors
 from .checked_queries import FileBounds
@@ -22,7 +20,12 @@ from .targets import Target
 from .team_settings import settings_read_anew, with_settings
 from .visible import visible
 
+if TYPE_CHECKING:
+    from multiprocessing.connection import Connection
+
 _MOST_JOBS = 256
+# For so many files one more process is worth its start.
+_FILES_OF_JOB = 100
 _BOUNDS = {
     "max_file_patterns": "the most that the patterns of a file may measure together",
     "max_file_nodes": "the most nodes that the YAML of a file may have, or values that its JSON may have",
@@ -85,12 +88,12 @@ Work = Callable[[Target], Report]
 ConfiguredWork = Callable[[argparse.Namespace, Target], Report]
 
 
-def add_arguments(parser: Any, without_file: str = "") -> None:
+def add_arguments(parser: Any, without_file: str = "", jobs: str = f"1, and 1 more for each {_FILES_OF_JOB} files, as many as there are processors") -> None:
     """What the commands over files have in common. Some do something without a file."""
     files = "a rule file, a dashboard (.json), a folder with rule files, or - for standard input"
     parser.add_argument("files", nargs="*", metavar="FILE", help=files + without_file)
     parser.add_argument("--dashboard", action="store_true", help="all files are dashboards")
-    parser.add_argument("--jobs", type=partial(whole_number, least=1, most=_MOST_JOBS), default=1, metavar="N", help="so many processes (1)")
+    parser.add_argument("--jobs", type=partial(whole_number, least=1, most=_MOST_JOBS), metavar="N", help=f"so many processes ({jobs})")
     colors.add_argument(parser)
     add_target(parser)
     for name, most in FileBounds()._asdict().items():
@@ -186,9 +189,9 @@ def no_query(files: int) -> Message:
     return Message(ERROR, EMPTY, message, text=message)
 
 
-def reports_of(targets: List[Target], work: Work, jobs: int) -> Iterator[Report]:
+def reports_of(targets: List[Target], work: Work, jobs: Optional[int]) -> Iterator[Report]:
     """What is said of each file, in their order."""
-    jobs = min(jobs, len(targets))
+    jobs = min(jobs or 1 + len(targets) // _FILES_OF_JOB, len(targets), _MOST_JOBS if jobs else len(os.sched_getaffinity(0)))
     names = [target.name for target in targets]
     # (standard input is that of one process, and a file that is there twice is written once after the other)
     alone = jobs == 1 or STDIN in names or len({os.path.realpath(name) for name in names}) < len(names)
@@ -198,6 +201,8 @@ def reports_of(targets: List[Target], work: Work, jobs: int) -> Iterator[Report]
 
 def _in_processes(targets: List[Target], work: Work, jobs: int) -> Iterator[Report]:
     """The reports of processes that take turns with the files, so that none is far ahead of what is put out."""
+    import multiprocessing
+
     context = multiprocessing.get_context("fork")
     readers: List[Connection] = []
     for number in range(jobs):

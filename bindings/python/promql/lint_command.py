@@ -3,7 +3,6 @@
 from __future__ import annotations
 
 import argparse
-from dataclasses import replace
 from typing import Any, List, Tuple
 
 from .checked_queries import QueryChecker
@@ -26,7 +25,7 @@ def add_parser(subparsers: Any) -> None:
     parser.add_argument("--ignore", action="append", default=[], type=_codes, metavar="CODES", help="leave these codes out")
     parser.add_argument("--fix", action="store_true", help="change the files by what is safe; print queries that are given")
     parser.add_argument("--rules", action="store_true", help="print the codes of the rules, and end")
-    parser.set_defaults(run=_run, command="lint")
+    parser.set_defaults(run=_run, command="lint", jobs=1)
 
 
 def _codes(text: str) -> Tuple[str, ...]:
@@ -83,7 +82,7 @@ def _fix_file(arguments: argparse.Namespace, selection: Selection, target: Targe
     text, count = linter.fixed()
     source = document.source
     if isinstance(document, GivenQuery):
-        source = replace(source, text=text)
+        source = source.with_text(text)
         linter = FileLinter(GivenQuery(source, document.checker.anew()), selection)
         found = linter.findings()
         status = Status.FAILED if linter.left else Status.FINE

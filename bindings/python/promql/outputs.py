@@ -5,8 +5,6 @@ from __future__ import annotations
 import json
 import os
 from typing import Any, Callable, Dict, Iterator, List, NamedTuple, Sequence
-from urllib.parse import quote
-from xml.sax.saxutils import escape, quoteattr
 
 import promql
 
@@ -82,6 +80,8 @@ def _sarif_result(message: Message, index: int) -> Json:
     }
     if not message.file:
         return result
+    from urllib.parse import quote
+
     location: Json = {"uri": quote(os.fsencode(message.file))}
     place: Json = {"artifactLocation": location}
     if message.region:
@@ -135,6 +135,9 @@ def as_junit(command: str, told: List[Told]) -> str:
 
 
 def _cases(told: Told) -> Iterator[str]:
+    # (what few ask for takes long to import)
+    from xml.sax.saxutils import escape
+
     others = [message for message, fails in zip(told.messages, told.failures) if not fails]
     if len(others) == len(told.messages):
         said = "".join(f"      <system-out>{escape(visible(_with_place(it)))}</system-out>\n" for it in others)
@@ -153,6 +156,8 @@ def _case(name: str, file: str, content: str) -> str:
 
 
 def _attribute(text: str) -> str:
+    from xml.sax.saxutils import quoteattr
+
     return quoteattr(visible(text))
 
 

@@ -13,7 +13,7 @@ from functools import lru_cache
 from typing import Any, Dict, List, Match, Tuple
 
 from .checked_queries import FileBounds
-from .files import BoundError, Source
+from .files import BoundError, FileError, Source
 from .yaml_nodes import Node, Token
 
 # What libyaml, which reads YAML 1.1, may take otherwise: the line ends of Unicode, and what is not printed; directives, ends of documents,
@@ -149,26 +149,29 @@ class _Composer:
         self._open: List[Node] = []
         self._flows = 0
         self.has_aliases = False
+        # Those of a text with TABs.
         self.scalars: List[_Span] = []
+        self._has_tabs = "\t" in self._text
 
     def documents(self, loader: Any) -> List[Node]:
+        yaml: Any = importlib.import_module("yaml")
         steps = {
-            "ScalarEvent": self._add_scalar,
-            "MappingStartEvent": self._begin,
-            "SequenceStartEvent": self._begin,
-            "MappingEndEvent": self._end,
-            "SequenceEndEvent": self._end,
-            "AliasEvent": self._add_alias,
-            "DocumentStartEvent": self._begin_document,
+            yaml.ScalarEvent: self._add_scalar,
+            yaml.MappingStartEvent: self._begin,
+            yaml.SequenceStartEvent: self._begin,
+            yaml.MappingEndEvent: self._end,
+            yaml.SequenceEndEvent: self._end,
+            yaml.AliasEvent: self._add_alias,
+            yaml.DocumentStartEvent: self._begin_document,
         }
         reader = loader(self._text)
         try:
             while event := reader.get_event():
-                step = steps.get(type(event).__name__)
+                step = steps.get(type(event))
                 if step:
                     step(event)
         # (an error of YAML, of any kind, is told by the other reader)
-        except (importlib.import_module("yaml").YAMLError, ValueError, OverflowError) as error:
+        except (yaml.YAMLError, ValueError, OverflowError) as error:
             mark = getattr(error, "problem_mark", None)
             raise Unclear(mark.index if mark else 0, f"not YAML to libyaml: {getattr(error, 'problem', error)}") from error
         finally:
@@ -184,14 +187,18 @@ class _Composer:
         if is_unusual:
             raise Unclear
         node = self._add("scalar", event.value, event.style or "", event)
-        self.scalars.append((node.start, node.end, node.style))
+        if self._has_tabs:
+            self.scalars.append((node.start, node.end, node.style))
 
     def _add(self, kind: str, value: Any, style: str, event: Any) -> Node:
         start, anchor, tag = event.start_mark, event.anchor, event.tag
         if tag is not None and tag not in _TAGS:
             raise Unclear(start.index)
         node = Node(kind, value, tag or "", style, anchor or "", start.index, event.end_mark.index, start.column, self._flows > 0)
-        self._put(node, start.index)
+        self._items[-1].append(node)
+        self.nodes_left -= 1
+        if self.nodes_left < 0:
+            raise self._too_many(start.index)
         if anchor:
             # (there is a tag before it where it is not here)
             if self._text[start.index] != "&":
@@ -200,12 +207,9 @@ class _Composer:
             self._anchors[anchor] = node
         return node
 
-    def _put(self, node: Node, at: int) -> None:
-        self.nodes_left -= 1
-        if self.nodes_left < 0:
-            message = f"the file has more than {self._most:,} nodes of YAML, up to here (--max-file-nodes)"
-            raise BoundError.of(self._source, at, message)
-        self._items[-1].append(node)
+    def _too_many(self, at: int) -> FileError:
+        message = f"the file has more than {self._most:,} nodes of YAML, up to here (--max-file-nodes)"
+        return BoundError.of(self._source, at, message)
 
     def _look_after(self, end: int) -> None:
         """Looks whether a name ends here, which may have more characters to others than to libyaml."""
@@ -216,7 +220,7 @@ class _Composer:
         if len(self._open) == _MOST_LEVELS:
             raise Unclear
         kind = "mapping" if type(event).__name__ == "MappingStartEvent" else "sequence"
-        self._open.append(self._add(kind, [], "{" * bool(event.flow_style), event))
+        self._open.append(self._add(kind, [], "{" if event.flow_style else "", event))
         self._flows += bool(event.flow_style)
         self._items.append([])
 
@@ -230,5 +234,8 @@ class _Composer:
         if not node:
             raise Unclear
         self._look_after(event.end_mark.index)
-        self._put(node, event.start_mark.index)
+        self._items[-1].append(node)
+        self.nodes_left -= 1
+        if self.nodes_left < 0:
+            raise self._too_many(event.start_mark.index)
         self.has_aliases = True

@@ -5,7 +5,6 @@ The reader of YAML only finds them. What is written is the text of the file, wit
 
 from __future__ import annotations
 
-from dataclasses import replace
 from functools import partial
 from itertools import islice
 from typing import Any, Callable, Dict, Iterator, List, Optional, Set, Tuple, Union
@@ -120,7 +119,7 @@ class RuleFile:
 
     def checks(self) -> Tuple[List[Fault], List[Fault]]:
         mappings = self._parts.mappings
-        found = RuleChecks(mappings)
+        found = RuleChecks(mappings, self._parts.yaml.has_aliases)
         try:
             for document in self._parts.documents:
                 if document.kind is not Kind.RULES:
@@ -140,7 +139,7 @@ class RuleFile:
         return found.faults, found.warnings
 
     def same(self, text: str, same_query: SameQuery) -> bool:
-        old, new = self._both(replace(self.source, text=text))
+        old, new = self._both(self.source.with_text(text))
         return len(old) == len(new) and all(_same(*roots, same_query) for roots in zip(old, new))
 
     def _both(self, new: Source) -> Tuple[List[Node], List[Node]]:

@@ -4,7 +4,6 @@ from __future__ import annotations
 
 import json
 import re
-from dataclasses import replace
 from difflib import SequenceMatcher
 from itertools import accumulate
 from typing import Any, Dict, Iterator, List, NamedTuple, Optional, Sequence, Set, Tuple
@@ -273,15 +272,16 @@ class FileLinter:
     def _change(self, query: Query) -> Optional[_Change]:
         if query.skipped or query.kept or not self._document.checker.admits(query.text):
             return None
-        contexts = self._contexts(query)
-        if not self._has_fix(query, contexts):
-            return None
+        contexts, is_written = self._contexts(query), self._is_written(query)
 
         def look(text: str, tree: Tree) -> List[Finding]:
-            take(text, self._budget)
             # (what a fix changes is in all rules that have the query)
             context, _ = contexts[0]
-            found = found_in(text, tree, self._selection, context, self._is_written(query))
+            for it in (text, *context.template_queries):
+                take(it, self._budget)
+            found = list(found_in(text, tree, self._selection, context, is_written))
+            if is_written is always:
+                self._looks.keep(text, self._selection, context, found)
             return [it for it in found if not any(ignored.has(it.code) for _, ignored in contexts)]
 
         try:
@@ -290,14 +290,6 @@ class FileLinter:
             # (as is told by `findings`)
             return None
         return (query, text) if text != query.text else None
-
-    def _has_fix(self, query: Query, contexts: Sequence[Tuple[RuleContext, Ignored]]) -> bool:
-        """Whether a finding of a query has a fix, so that there is one to make."""
-        try:
-            found = self._look(query, contexts[0][0])
-        except (RecursionError, ValueError, BoundError):
-            return False
-        return any(finding.fix for finding in found)
 
     def _edits(self, query: Query, text: str, plainly: bool) -> List[Edit]:
         """What writes another text in the place of a query: edits of the parts that differ, or one of the whole. There is none of a whole
@@ -309,7 +301,7 @@ class FileLinter:
 
     def _has(self, text: str, queries: Sequence[str]) -> bool:
         """Whether a text of the file is read as these queries, and all else in it as before."""
-        source = replace(self._document.source, text=text)
+        source = self._document.source.with_text(text)
         try:
             self.fixed_document = _read_again(self._document, source)
             read = [query.text for query in self.fixed_document.queries]
