@@ -270,7 +270,7 @@ class FileLinter:
         return None
 
     def _change(self, query: Query) -> Optional[_Change]:
-        if query.skipped or query.kept or not self._document.checker.admits(query.text):
+        if query.skipped or query.kept or not self._document.checker.admits(query.text) or not self._budget.takes(0):
             return None
         contexts, is_written = self._contexts(query), self._is_written(query)
 

@@ -56,12 +56,14 @@ class Labels(NamedTuple):
 
     def both(self, other: Labels) -> Labels:
         """Those of series that have the same labels in both."""
-        made = Labels(None, _NONE, self.sure | other.sure, self.named | other.named, self.values | other.values)
+        only, without = None, _NONE
         if self.only is not None:
-            return made._replace(only=self.only - other.lacked(self.only))
-        if other.only is not None:
-            return made._replace(only=other.only - self.lacked(other.only))
-        return made._replace(without=self.without | other.without)
+            only = self.only - other.lacked(self.only)
+        elif other.only is not None:
+            only = other.only - self.lacked(other.only)
+        else:
+            without = self.without | other.without
+        return Labels(only, without, self.sure | other.sure, self.named | other.named, self.values | other.values)
 
     def either(self, other: Labels) -> Labels:
         """Those of series of the one or of the other."""

@@ -74,7 +74,7 @@ def never_matched(subject: Subject) -> Iterator[Remark]:
 def _why_never(subject: Subject, node: Tree, left: Labels, right: Labels) -> str:
     """Why no series of both sides match, or nothing."""
     lacking = _lacking(subject, node, (left, left.sure), (right, right.sure))
-    if lacking or node["op"] == "or" or fills(node):
+    if lacking or not left.values or not right.values or node["op"] == "or" or fills(node):
         return lacking
     here, there = dict(sorted(left.values)), dict(sorted(right.values))
     differing = frozenset(label for label in here.keys() & there.keys() if here[label] != there[label])
@@ -87,7 +87,7 @@ def _why_never(subject: Subject, node: Tree, left: Labels, right: Labels) -> str
 
 def _lacking(subject: Subject, node: Tree, left: Tuple[Labels, FrozenSet[str]], right: Tuple[Labels, FrozenSet[str]]) -> str:
     """That one side has a label, of some that are to be looked at, which the other side cannot have; or nothing."""
-    if node["op"] == "or" or fills(node):
+    if not left[1] and not right[1] or node["op"] == "or" or fills(node):
         return ""
     for side, (_, has), (other, _) in (("left", left, right), ("right", right, left)):
         lacking = sorted(_compared(node, other.lacked(has)))

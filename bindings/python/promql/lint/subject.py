@@ -177,7 +177,7 @@ class Subject:
     def compares_patterns(self) -> bool:
         """Whether patterns are held against the values of other matchers, which they are not where these are large together."""
         steps = 0
-        for node in self.selectors:
+        for node in self.selectors if "~" in self.text else ():
             for group in self.matcher_groups(node):
                 lengths: Dict[str, int] = {}
                 for it in group:

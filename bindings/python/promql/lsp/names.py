@@ -28,9 +28,10 @@ class Names(NamedTuple):
 def names_of(text: str) -> Names:
     """What a query names; the name of a metric in a string with an escape is none here."""
     metrics: List[Use] = []
-    labels = {plain(token) for token in labels_in(code_of(text))}
+    tokens = code_of(text)
+    labels = {plain(token) for token in labels_in(tokens)}
     values: Set[Tuple[str, str]] = set()
-    for selector in selectors_of(text):
+    for selector in selectors_of(text, tokens):
         if selector.name:
             metrics.append(Use(selector.name.text, selector.name.start, selector.name.end))
         for matcher in selector.matchers:
