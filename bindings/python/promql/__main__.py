@@ -14,15 +14,7 @@ from . import set_target
 from .documents import Status
 from .options import PROGRAM, Parser
 
-# The commands, and the module of each.
-COMMANDS = {
-    "check": "check_command",
-    "format": "format_command",
-    "lint": "lint_command",
-    "lsp": "lsp_command",
-    "serve": "page",
-    "completion": "completion_command",
-}
+COMMANDS = ("check", "format", "lint", "lsp", "serve", "completion")
 # After how many new objects cycles are looked for.
 _NEW_OBJECTS = 100_000
 
@@ -45,7 +37,7 @@ def main(arguments: Optional[List[str]] = None) -> int:
 def _meant_by(words: List[str]) -> Iterable[Any]:
     """The module of the command that is named first, since it takes long to import all; and all where none is, or where it tells of all."""
     named = [name for name in words[:1] if name in COMMANDS and name != "completion"]
-    return (import_module(f".{COMMANDS[name]}", __package__) for name in named or COMMANDS)
+    return (import_module(".page" if name == "serve" else f".{name}_command", __package__) for name in named or COMMANDS)
 
 
 def program() -> int:

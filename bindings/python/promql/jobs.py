@@ -6,7 +6,7 @@ import argparse
 import os
 import sys
 from functools import partial
-from typing import TYPE_CHECKING, Any, Callable, Iterator, List, NamedTuple, Optional, Sequence
+from typing import Any, Callable, Iterator, List, NamedTuple, Optional, Sequence
 
 from . import colors
 from .checked_queries import FileBounds
@@ -20,12 +20,10 @@ from .targets import Target
 from .team_settings import settings_read_anew, with_settings
 from .visible import visible
 
-if TYPE_CHECKING:
-    from multiprocessing.connection import Connection
-
 _MOST_JOBS = 256
 # For so many files one more process is worth its start.
 _FILES_OF_JOB = 100
+_JOBS = f"1, and 1 more for each {_FILES_OF_JOB} files, up to the number of processors"
 _BOUNDS = {
     "max_file_patterns": "the most that the patterns of a file may measure together",
     "max_file_nodes": "the most nodes that the YAML of a file may have, or values that its JSON may have",
@@ -88,9 +86,9 @@ Work = Callable[[Target], Report]
 ConfiguredWork = Callable[[argparse.Namespace, Target], Report]
 
 
-def add_arguments(parser: Any, without_file: str = "", jobs: str = f"1, and 1 more for each {_FILES_OF_JOB} files, as many as there are processors") -> None:
-    """What the commands over files have in common. Some do something without a file."""
-    files = "a rule file, a dashboard (.json), a folder with rule files, or - for standard input"
+def add_arguments(parser: Any, without_file: str = "without one it is read", jobs: str = _JOBS) -> None:
+    """What the commands over files have in common."""
+    files = "a rule file, a dashboard (.json), a folder with rule files, or - for standard input; "
     parser.add_argument("files", nargs="*", metavar="FILE", help=files + without_file)
     parser.add_argument("--dashboard", action="store_true", help="all files are dashboards")
     parser.add_argument("--jobs", type=partial(whole_number, least=1, most=_MOST_JOBS), metavar="N", help=f"so many processes ({jobs})")
@@ -139,8 +137,9 @@ def work_on(
     needs_queries: bool = True,
 ) -> Status:
     """Puts out what is said of each file, and returns the status that counts. It can go on where the output cannot be written."""
-    if not targets:
+    if not targets and (sys.stdin is None or sys.stdin.isatty()):
         arguments.wrong("no FILE is named")
+    targets = targets or [Target(STDIN)]
     with_colors = colors.are_wanted(arguments.color, sys.stderr)
     worst, queries = Status.FINE, 0
     told: List[Told] = []
@@ -204,7 +203,7 @@ def _in_processes(targets: List[Target], work: Work, jobs: int) -> Iterator[Repo
     import multiprocessing
 
     context = multiprocessing.get_context("fork")
-    readers: List[Connection] = []
+    readers: List[Any] = []
     for number in range(jobs):
         reader, writer = context.Pipe(duplex=False)
         readers.append(reader)
@@ -218,7 +217,7 @@ def _in_processes(targets: List[Target], work: Work, jobs: int) -> Iterator[Repo
         yield report
 
 
-def _send(targets: List[Target], work: Work, writer: Connection, readers: List[Connection]) -> None:
+def _send(targets: List[Target], work: Work, writer: Any, readers: List[Any]) -> None:
     """What a process does: where nobody reads its reports any more, it ends by SIGPIPE."""
     for reader in readers:
         reader.close()

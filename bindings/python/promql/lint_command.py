@@ -19,7 +19,7 @@ from .visible import visible
 
 def add_parser(subparsers: Any) -> None:
     parser = subparsers.add_parser("lint", help="find what is most likely not meant in queries", description=__doc__)
-    add_arguments(parser, "; without one and without --query, standard input is a query")
+    add_arguments(parser, "without one and without --query it is a query", "1")
     parser.add_argument("-q", "--query", action="append", default=[], metavar="QUERY", help="look at this query; may be there again")
     parser.add_argument("--select", action="append", default=[], type=_codes, metavar="CODES", help="look for these codes alone: P101,P2")
     parser.add_argument("--ignore", action="append", default=[], type=_codes, metavar="CODES", help="leave these codes out")
@@ -43,7 +43,6 @@ def _run(arguments: argparse.Namespace) -> int:
         arguments.wrong("--fix prints queries and standard input with their fixes, and no other output")
     targets = [Target(f"<query {number}>", query=query) for number, query in enumerate(arguments.query, 1)]
     targets += targets_of(arguments.files, arguments.dashboard)
-    targets = targets or [Target(STDIN)]
     return work_on(targets, _lint_file, arguments, goes_on=arguments.fix)
 
 

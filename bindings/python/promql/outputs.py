@@ -4,6 +4,7 @@ from __future__ import annotations
 
 import json
 import os
+from html import escape
 from typing import Any, Callable, Dict, Iterator, List, NamedTuple, Sequence
 
 import promql
@@ -135,19 +136,16 @@ def as_junit(command: str, told: List[Told]) -> str:
 
 
 def _cases(told: Told) -> Iterator[str]:
-    # (what few ask for takes long to import)
-    from xml.sax.saxutils import escape
-
     others = [message for message, fails in zip(told.messages, told.failures) if not fails]
     if len(others) == len(told.messages):
-        said = "".join(f"      <system-out>{escape(visible(_with_place(it)))}</system-out>\n" for it in others)
+        said = "".join(f"      <system-out>{escape(visible(_with_place(it)), False)}</system-out>\n" for it in others)
         yield _case(told.file, told.file, said)
     for message, fails in zip(told.messages, told.failures):
         if fails:
             kind = "error" if message.code == FILE else "failure"
             text = visible(_with_place(message))
             about = f"type={_attribute(message.code)} message={_attribute(message.message)}"
-            yield _case(f"{_with_place(message, '')} {message.code}", told.file, f"      <{kind} {about}>{escape(text)}</{kind}>\n")
+            yield _case(f"{_with_place(message, '')} {message.code}", told.file, f"      <{kind} {about}>{escape(text, False)}</{kind}>\n")
 
 
 def _case(name: str, file: str, content: str) -> str:
@@ -156,9 +154,7 @@ def _case(name: str, file: str, content: str) -> str:
 
 
 def _attribute(text: str) -> str:
-    from xml.sax.saxutils import quoteattr
-
-    return quoteattr(visible(text))
+    return f'"{escape(visible(text))}"'
 
 
 def _with_place(message: Message, rest: str = ": {0.severity} {0.code}: {0.message}") -> str:

@@ -13,7 +13,7 @@ from functools import lru_cache
 from typing import Any, Dict, List, Match, Tuple
 
 from .checked_queries import FileBounds
-from .files import BoundError, FileError, Source
+from .files import BoundError, Source
 from .yaml_nodes import Node, Token
 
 # What libyaml, which reads YAML 1.1, may take otherwise: the line ends of Unicode, and what is not printed; directives, ends of documents,
@@ -195,10 +195,7 @@ class _Composer:
         if tag is not None and tag not in _TAGS:
             raise Unclear(start.index)
         node = Node(kind, value, tag or "", style, anchor or "", start.index, event.end_mark.index, start.column, self._flows > 0)
-        self._items[-1].append(node)
-        self.nodes_left -= 1
-        if self.nodes_left < 0:
-            raise self._too_many(start.index)
+        self._put(node, start.index)
         if anchor:
             # (there is a tag before it where it is not here)
             if self._text[start.index] != "&":
@@ -207,9 +204,12 @@ class _Composer:
             self._anchors[anchor] = node
         return node
 
-    def _too_many(self, at: int) -> FileError:
-        message = f"the file has more than {self._most:,} nodes of YAML, up to here (--max-file-nodes)"
-        return BoundError.of(self._source, at, message)
+    def _put(self, node: Node, at: int) -> None:
+        self.nodes_left -= 1
+        if self.nodes_left < 0:
+            message = f"the file has more than {self._most:,} nodes of YAML, up to here (--max-file-nodes)"
+            raise BoundError.of(self._source, at, message)
+        self._items[-1].append(node)
 
     def _look_after(self, end: int) -> None:
         """Looks whether a name ends here, which may have more characters to others than to libyaml."""
@@ -234,8 +234,5 @@ class _Composer:
         if not node:
             raise Unclear
         self._look_after(event.end_mark.index)
-        self._items[-1].append(node)
-        self.nodes_left -= 1
-        if self.nodes_left < 0:
-            raise self._too_many(event.start_mark.index)
+        self._put(node, event.start_mark.index)
         self.has_aliases = True

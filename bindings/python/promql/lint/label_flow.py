@@ -56,14 +56,12 @@ class Labels(NamedTuple):
 
     def both(self, other: Labels) -> Labels:
         """Those of series that have the same labels in both."""
-        only, without = None, _NONE
+        made = Labels(None, _NONE, self.sure | other.sure, self.named | other.named, self.values | other.values)
         if self.only is not None:
-            only = self.only - other.lacked(self.only)
-        elif other.only is not None:
-            only = other.only - self.lacked(other.only)
-        else:
-            without = self.without | other.without
-        return Labels(only, without, self.sure | other.sure, self.named | other.named, self.values | other.values)
+            return made._replace(only=self.only - other.lacked(self.only))
+        if other.only is not None:
+            return made._replace(only=other.only - self.lacked(other.only))
+        return made._replace(without=self.without | other.without)
 
     def either(self, other: Labels) -> Labels:
         """Those of series of the one or of the other."""
