@@ -331,7 +331,7 @@ def _changed_lines(old: str, lines: List[str], edits: Sequence[Edit]) -> Iterato
     parts: List[Tuple[int, int, List[Edit]]] = []
     for edit in sorted(edits):
         first, last = (min(bisect_right(starts, at), len(lines)) for at in edit[:2])
-        if parts and first <= parts[-1][1]:
+        if parts and first <= parts[-1][1] + 1:
             parts[-1][2].append(edit)
             parts[-1] = (parts[-1][0], max(last, parts[-1][1]), parts[-1][2])
         else:
