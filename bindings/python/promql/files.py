@@ -69,17 +69,8 @@ class Fault(NamedTuple):
     number: int = 0
 
 
-class Source:
+class Source(NamedTuple("Source", [("name", str), ("text", str), ("mark", str)])):
     """A file that was read: its text has the line ends of the file, and not its byte order mark."""
-
-    def __init__(self, name: str, text: str, mark: str) -> None:
-        self.name = name
-        self.text = text
-        self.mark = mark
-
-    def with_text(self, text: str) -> Source:
-        """The same file with another text."""
-        return Source(self.name, text, self.mark)
 
     @property
     def data(self) -> bytes:
@@ -175,9 +166,8 @@ def _replace_file(source: Source, data: bytes) -> None:
     _look_at_kind(source.name, status)
     if not os.access(path, os.W_OK):
         raise PermissionError(errno.EACCES, os.strerror(errno.EACCES), source.name)
-    # (it takes longer to import than a small file to check)
+    # (importing it takes longer than a small file to check)
     import tempfile
-
     descriptor, temporary = tempfile.mkstemp(prefix=".promql-", dir=os.path.dirname(path))
     try:
         with open(descriptor, "wb") as file:

@@ -287,7 +287,7 @@ def _put_out(name: str, document: Document, text: str, edits: List[Edit], argume
     source = document.source
     changed = text != source.text
     if arguments.check or arguments.diff:
-        said = f"{visible(source.name)}\n" if arguments.check else "".join(_diff(source.name, source.text, edits))
+        said = f"{visible(source.name)}\n" if arguments.check else "".join(_diff(source.name, source.text, text, edits))
         return said if changed else ""
     if not arguments.write or name == STDIN:
         return source.mark + text
@@ -296,28 +296,24 @@ def _put_out(name: str, document: Document, text: str, edits: List[Edit], argume
     return ""
 
 
-def _diff(name: str, old: str, edits: Sequence[Edit]) -> Iterator[str]:
+def _diff(name: str, old: str, new: str, edits: Sequence[Edit]) -> Iterator[str]:
     """What edits change, as `diff -u` prints it. The lines that an edit changes are compared by themselves, so that many take no longer."""
-    lines: List[str] = _LINE.findall(old)
-    new: List[str] = []
-    done, budget, matcher = 0, Budget(_MOST_COMPARED), SequenceMatcher(None, "", "")
+    lines, others = _LINE.findall(old), _LINE.findall(new)
+    done, budget, matcher = (0, 0), Budget(_MOST_COMPARED), SequenceMatcher(None, "", "")
     matcher.opcodes = codes = []  # type: ignore[attr-defined]
-    for first, last, others in _changed_lines(old, lines, edits):
-        codes += [("equal", done, first, len(new), len(new) + first - done)] if first > done else []
-        new += lines[done:first]
-        if (last - first) * len(others) <= _LARGEST_COMPARED and budget.takes((last - first) * len(others)):
-            found = SequenceMatcher(None, lines[first:last], others).get_opcodes()
-            codes += [(tag, first + i1, first + i2, len(new) + j1, len(new) + j2) for tag, i1, i2, j1, j2 in found]
-        else:
-            codes.append(("replace", first, last, len(new), len(new) + len(others)))
-        new += others
-        done = last
+    for i1, i2, j1, j2 in _changed_lines(lines, others, edits):
+        codes += [("equal", done[0], i1, done[1], j1)] if i1 > done[0] else []
+        pairs, done = (i2 - i1) * (j2 - j1), (i2, j2)
+        is_short = pairs <= _LARGEST_COMPARED and budget.takes(pairs)
+        found = SequenceMatcher(None, lines[i1:i2], others[j1:j2]).get_opcodes() if is_short else [("replace", 0, i2 - i1, 0, j2 - j1)]
+        codes += [(tag, i1 + it[0], i1 + it[1], j1 + it[2], j1 + it[3]) for tag, *it in found]
     yield f"--- {name}\n+++ {name}\n"
     for group in matcher.get_grouped_opcodes():
         yield f"@@ -{_range(group[0][1], group[-1][2])} +{_range(group[0][3], group[-1][4])} @@\n"
         for tag, i1, i2, j1, j2 in group:
-            said = [" " + it for it in lines[i1:i2]] if tag == "equal" else ["-" + it for it in lines[i1:i2]] + ["+" + it for it in new[j1:j2]]
-            yield from (line if line.endswith("\n") else f"{line}\n\\ No newline at end of file\n" for line in said)
+            signs = (" ", "") if tag == "equal" else ("-", "+")
+            for line in [signs[0] + it for it in lines[i1:i2]] + [signs[1] + it for it in others[j1:j2] if signs[1]]:
+                yield line if line.endswith("\n") else f"{line}\n\\ No newline at end of file\n"
 
 
 def _range(first: int, end: int) -> str:
@@ -325,22 +321,22 @@ def _range(first: int, end: int) -> str:
     return f"{first + 1}" if end - first == 1 else f"{first + (end > first)},{end - first}"
 
 
-def _changed_lines(old: str, lines: List[str], edits: Sequence[Edit]) -> Iterator[Tuple[int, int, List[str]]]:
-    """The lines that edits change, and those that are there instead; at last none, at the end."""
-    starts = [*accumulate(map(len, lines), initial=0)]
-    parts: List[Tuple[int, int, List[Edit]]] = []
+def _changed_lines(lines: List[str], others: List[str], edits: Sequence[Edit]) -> Iterator[Tuple[int, int, int, int]]:
+    """The lines that edits change, and those that are there instead, by the numbers of both; at last none, at the end."""
+    ends, new_ends = ([*accumulate(map(len, it))] for it in (lines, others))
+    parts: List[Tuple[int, int, int, int]] = []
+    longer = 0
     for edit in sorted(edits):
-        first, last = (min(bisect_right(starts, at), len(lines)) for at in edit[:2])
-        if parts and first <= parts[-1][1] + 1:
-            parts[-1][2].append(edit)
-            parts[-1] = (parts[-1][0], max(last, parts[-1][1]), parts[-1][2])
-        else:
-            parts.append((first, last, [edit]))
-    for first, last, some in parts:
-        begin = starts[first - 1]
-        others = _LINE.findall(edited(old[begin : starts[last]], (Edit(it.start - begin, it.end - begin, it.text) for it in some)))
-        most = min(last - first + 1, len(others))
-        same = next((at for at in range(most) if lines[first - 1 + at] != others[at]), most)
-        end = next((at for at in range(most - same) if lines[last - 1 - at] != others[-1 - at]), most - same)
-        yield first - 1 + same, last - end, others[same : len(others) - end]
-    yield len(lines), len(lines), []
+        first, new_first = bisect_right(ends, edit.start), bisect_right(new_ends, edit.start + longer)
+        longer += len(edit.text) - (edit.end - edit.start)
+        last, new_last = bisect_right(ends, edit.end) + 1, bisect_right(new_ends, edit.end + longer) + 1
+        if parts and first <= parts[-1][1]:
+            first, _, new_first, _ = parts.pop()
+        parts.append((first, min(last, len(lines)), new_first, min(new_last, len(others))))
+    for i1, i2, j1, j2 in parts:
+        while i1 < i2 and j1 < j2 and lines[i1] == others[j1]:
+            i1, j1 = i1 + 1, j1 + 1
+        while i1 < i2 and j1 < j2 and lines[i2 - 1] == others[j2 - 1]:
+            i2, j2 = i2 - 1, j2 - 1
+        yield i1, i2, j1, j2
+    yield len(lines), len(lines), len(others), len(others)

@@ -185,8 +185,11 @@ def _is_doubtful(error: promql.QueryError, span: Span) -> bool:
 
 def _trials(query: str) -> Iterator[Variables]:
     """The ways to read the variables of a query, the most likely one first."""
+    # (there may be many)
+    if sum(1 for _ in islice(VARIABLE.finditer(query), MOST_TEXTS + 1)) > MOST_TEXTS:
+        return
     places = places_of(query)
-    if len(VARIABLE.findall(query)) > MOST_TEXTS or any(not place.kinds for place in places):
+    if any(not place.kinds for place in places):
         return
     open_places = sorted({(query[place.start : place.end], place.kinds) for place in places if len(place.kinds) > 1})
     most = min(_MOST_TRIALS, 1 + _MOST_READ // (len(query) + 1))

@@ -201,7 +201,6 @@ def reports_of(targets: List[Target], work: Work, jobs: Optional[int]) -> Iterat
 def _in_processes(targets: List[Target], work: Work, jobs: int) -> Iterator[Report]:
     """The reports of processes that take turns with the files, so that none is far ahead of what is put out."""
     import multiprocessing
-
     context = multiprocessing.get_context("fork")
     readers: List[Any] = []
     for number in range(jobs):

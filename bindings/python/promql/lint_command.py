@@ -81,11 +81,11 @@ def _fix_file(arguments: argparse.Namespace, selection: Selection, target: Targe
     text, count = linter.fixed()
     source = document.source
     if isinstance(document, GivenQuery):
-        source = source.with_text(text)
+        source = source._replace(text=text)
         linter = FileLinter(GivenQuery(source, document.checker.anew()), selection)
         found = linter.findings()
         status = Status.FAILED if linter.left else Status.FINE
-        messages = [finding._replace(text=source.shown(fault_of(it))) for it, finding in zip(found, _messages(source, found))]
+        messages = [_message(source, it)._replace(text=source.shown(fault_of(it))) for it in found]
         messages += _not_looked_at(source, linter)
         return Report(status, as_bytes(text if text.endswith("\n") else f"{text}\n"), messages, 1)
     if target.name == STDIN:
@@ -103,7 +103,9 @@ def _report(arguments: argparse.Namespace, document: Document, selection: Select
     status = Status.FAILED if linter.left else Status.FINE
     messages = list(left_out(document, arguments.verbose))
     messages += [placed(source, fault, ERROR, RULE, source.shown(fault)) for fault in listed(document.faults, "errors")]
-    messages += [*_not_looked_at(source, linter), *skipped_queries(document, arguments.verbose), *_messages(source, found)]
+    messages += [*_not_looked_at(source, linter), *skipped_queries(document, arguments.verbose)]
+    # (the findings themselves are printed to standard output)
+    messages += [_message(source, it) for it in found]
     skipped = sum(1 for query in document.queries if query.skipped)
     counts = [f"{skipped} skipped"] if skipped else []
     counts += [*notes, counted(len(found), "finding", "findings")]
@@ -114,11 +116,6 @@ def _report(arguments: argparse.Namespace, document: Document, selection: Select
 
 def _not_looked_at(source: Source, linter: FileLinter) -> List[Message]:
     return [placed(source, fault, ERROR, UNREAD, source.shown(fault)) for fault in listed(linter.left, "errors")]
-
-
-def _messages(source: Source, found: List[FileFinding]) -> List[Message]:
-    """The findings, which are printed to standard output."""
-    return [_message(source, it) for it in found]
 
 
 def _message(source: Source, found: FileFinding) -> Message:

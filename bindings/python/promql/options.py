@@ -51,7 +51,6 @@ class Parser(argparse.ArgumentParser):
 def _nearest(word: str, known: Iterable[str]) -> str:
     """A hint at the word that is most likely meant, if one is near."""
     import difflib
-
     return "".join(f": did you mean {near}?" for near in difflib.get_close_matches(word, known, 1))
 
 

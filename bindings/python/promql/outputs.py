@@ -82,7 +82,6 @@ def _sarif_result(message: Message, index: int) -> Json:
     if not message.file:
         return result
     from urllib.parse import quote
-
     location: Json = {"uri": quote(os.fsencode(message.file))}
     place: Json = {"artifactLocation": location}
     if message.region:

@@ -22,7 +22,6 @@ def with_progress(names: Sequence[str], made: Iterable[Made], stream: TextIO) ->
         yield from zip(names, made)
         return
     import shutil
-
     rest, end = iter(made), time.monotonic() + _PATIENCE
     for number, name in enumerate(names, 1):
         line = f"{number} of {len(names)}: {visible(name)}"[: shutil.get_terminal_size().columns - 1]

@@ -149,9 +149,7 @@ class _Composer:
         self._open: List[Node] = []
         self._flows = 0
         self.has_aliases = False
-        # Those of a text with TABs.
         self.scalars: List[_Span] = []
-        self._has_tabs = "\t" in self._text
 
     def documents(self, loader: Any) -> List[Node]:
         yaml: Any = importlib.import_module("yaml")
@@ -187,8 +185,7 @@ class _Composer:
         if is_unusual:
             raise Unclear
         node = self._add("scalar", event.value, event.style or "", event)
-        if self._has_tabs:
-            self.scalars.append((node.start, node.end, node.style))
+        self.scalars.append((node.start, node.end, node.style))
 
     def _add(self, kind: str, value: Any, style: str, event: Any) -> Node:
         start, anchor, tag = event.start_mark, event.anchor, event.tag

@@ -139,7 +139,7 @@ class RuleFile:
         return found.faults, found.warnings
 
     def same(self, text: str, same_query: SameQuery) -> bool:
-        old, new = self._both(self.source.with_text(text))
+        old, new = self._both(self.source._replace(text=text))
         return len(old) == len(new) and all(_same(*roots, same_query) for roots in zip(old, new))
 
     def _both(self, new: Source) -> Tuple[List[Node], List[Node]]:

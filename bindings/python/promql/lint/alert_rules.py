@@ -26,19 +26,14 @@ def bool_in_alert(subject: Subject) -> Iterator[Remark]:
     node = inner(subject.tree)
     if not subject.context.alert or not is_comparison(node) or not node["bool"] or has_condition(node):
         return
-    place = subject.place(node)
-    span = place.bool if place and place.bool else subject.span(node)
-    yield Remark(span, "the alert fires always: with `bool` a comparison has the value 0 where it is false")
+    yield Remark(subject.place(node).bool or subject.span(node), "the alert fires always: with `bool` a comparison has the value 0 where it is false")
 
 
 @rule("P503", "lost-template-label", Severity.WARNING, needs="alert")
 def lost_template_label(subject: Subject) -> Iterator[Remark]:
     """A label that a template of the alert shows, and that its series cannot have."""
-    if not subject.context.alert or not subject.context.template_labels:
-        return
-    labels = subject.labels.of(subject.tree)
     for label in sorted(subject.context.template_labels):
-        if label != "__name__" and not labels.may_have(label):
+        if label != "__name__" and not subject.labels.of(subject.tree).may_have(label):
             message = f"a template has `$labels.{label}`, which is empty: no series of the query has this label"
             yield Remark(subject.whole, message)
 

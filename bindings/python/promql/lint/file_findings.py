@@ -301,7 +301,7 @@ class FileLinter:
 
     def _has(self, text: str, queries: Sequence[str]) -> bool:
         """Whether a text of the file is read as these queries, and all else in it as before."""
-        source = self._document.source.with_text(text)
+        source = self._document.source._replace(text=text)
         try:
             self.fixed_document = _read_again(self._document, source)
             read = [query.text for query in self.fixed_document.queries]

@@ -72,9 +72,9 @@ class KnownLooks:
 
     def _keep(self, key: Tuple[Any, ...], found: List[Finding]) -> None:
         size = len(key[0]) + _FINDING * (1 + len(found))
+        if self._kept + size > _MOST_KEPT:
+            self._known, self._kept = {}, 0
         self._kept += size
-        if self._kept > _MOST_KEPT:
-            self._known, self._kept = {}, size
         self._known[key] = found
 
 

@@ -3,6 +3,7 @@
 from __future__ import annotations
 
 import re
+from contextlib import suppress
 from typing import Callable, Dict, FrozenSet, Iterable, List, NamedTuple, Optional, Set, Tuple
 
 import promql
@@ -50,12 +51,10 @@ class Records:
     def _named_by(self, name: str) -> Set[str]:
         """The words of the queries of a metric, as far as they may be read."""
         found: Set[str] = set()
-        for query in dict.fromkeys(rule.query for rule in self._rules[name]):
-            try:
+        with suppress(BoundError):
+            for query in dict.fromkeys(rule.query for rule in self._rules[name]):
                 self._take(query)
-            except BoundError:
-                break
-            found.update(token.text for token in tokens_of(query) if token.kind not in ("comment", "string"))
+                found.update(token.text for token in tokens_of(query) if token.kind not in ("comment", "string"))
         return found
 
     def key_of(self, query: str) -> Optional[int]:

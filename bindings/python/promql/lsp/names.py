@@ -28,10 +28,9 @@ class Names(NamedTuple):
 def names_of(text: str) -> Names:
     """What a query names; the name of a metric in a string with an escape is none here."""
     metrics: List[Use] = []
-    tokens = code_of(text)
-    labels = {plain(token) for token in labels_in(tokens)}
+    labels = {plain(token) for token in labels_in(code_of(text))}
     values: Set[Tuple[str, str]] = set()
-    for selector in selectors_of(text, tokens):
+    for selector in selectors_of(text):
         if selector.name:
             metrics.append(Use(selector.name.text, selector.name.start, selector.name.end))
         for matcher in selector.matchers:

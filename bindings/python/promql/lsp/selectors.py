@@ -39,9 +39,9 @@ def plain(token: Token) -> str:
     return token.text[1:-1] if token.kind == "string" else token.text
 
 
-def selectors_of(text: str, tokens: Optional[List[Token]] = None) -> List[Selector]:
-    """The selectors of a text, in their order; where its tokens are known, by these."""
-    tokens = code_of(text) if tokens is None else tokens
+def selectors_of(text: str) -> List[Selector]:
+    """The selectors of a text, in their order."""
+    tokens = code_of(text)
     names, found, at = _names(text, tokens), [], 0
     while at < len(tokens):
         first = at
