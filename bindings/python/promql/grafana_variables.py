@@ -312,7 +312,8 @@ def _as_token(query: str, token: Token, before: str, after: str, opened: str) ->
     if "." in rest or token.text[0].isdigit():
         return _NUMBER, False
     if opened != "{" and after in ("(", "by", "without"):
-        return _functions(query), False
+        # (those names that the query has not)
+        return (*(name for name in _FUNCTIONS if name not in query), *_WORD), False
     return (_kinds(token.text, before, after, opened), False) if is_variable else None
 
 
@@ -323,8 +324,3 @@ def _kinds(variable: str, before: str, after: str, opened: str) -> Tuple[str, ..
     if variable.strip("${}[]").partition(":")[0] in _NUMBERS:
         return (*_NUMBER, *_WORD)
     return (*_WORD, *_NUMBER, *_STRING, *_RANGE)
-
-
-def _functions(query: str) -> Tuple[str, ...]:
-    """What the name of a function may be read as: names that the query has not."""
-    return (*(name for name in _FUNCTIONS if name not in query), *_WORD)

@@ -55,7 +55,8 @@ class KnownLooks:
         if key not in self._known:
             for text in (query, *context.template_queries):
                 take(text, budget)
-            self._keep(key, [_without_changes(it) for it in look_at(query, selection, context, is_written, has_fixes, explains)])
+            found = look_at(query, selection, context, is_written, has_fixes, explains)
+            self._keep(key, [it._replace(fix=it.fix and it.fix._replace(changes=())) for it in found])
         return self._known[key]
 
     def keep(self, query: str, selection: Selection, context: RuleContext, found: List[Finding]) -> None:
@@ -76,10 +77,6 @@ class KnownLooks:
             self._known, self._kept = {}, 0
         self._kept += size
         self._known[key] = found
-
-
-def _without_changes(finding: Finding) -> Finding:
-    return finding._replace(fix=finding.fix._replace(changes=())) if finding.fix else finding
 
 
 LOOKS = KnownLooks()
