@@ -233,8 +233,8 @@ class Jobs(Folder):
         names = [*self.files(20), self.folder / "none.yml"]
         for command in (("check",), ("format",), ("format", "--check"), ("format", "--diff")):
             alone = run(*command, *names)
-            for jobs in (2, 3, 21, 200):
-                self.assertEqual(run(*command, "--jobs", jobs, *names), alone, (command, jobs))
+            for count in (2, 3, 21, 200):
+                self.assertEqual(run(*command, "--jobs", count, *names), alone, (command, count))
 
     def test_as_many_as_files(self):
         """Without an option so many processes share the files as there are hundreds of them, and one more, but `lint` is one."""
