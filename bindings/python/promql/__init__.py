@@ -17,7 +17,7 @@ import json
 from functools import cached_property
 from importlib import import_module
 from operator import index
-from typing import TYPE_CHECKING, Any, Dict, Iterable, List, Mapping, NamedTuple, Optional, Tuple, Type, Union
+from typing import TYPE_CHECKING, Any, Dict, Iterable, List, Mapping, NamedTuple, Optional, Sequence, Tuple, Type, Union
 
 from ._answers import Answer, Failure, Mode, Named, Status, Target
 from ._calls import calls as _caller
@@ -429,11 +429,16 @@ def tokens(text: str) -> List[Token]:
     >>> promql.tokens("up 5x")
     [Token(kind='name', start=0, end=2), Token(kind='error', start=3, end=5)]
     """
-    found = json.loads(_text(text, _caller.tokens(text)))
+    return [Token(*it) for it in _tokens(text)]
+
+
+def _tokens(text: str) -> Sequence[Tuple[str, int, int]]:
+    """The kind, the start and the end of each token."""
+    found: List[Tuple[str, int, int]] = json.loads(_text(text, _caller.tokens(text)))
     if text.isascii():
-        return [Token(*it) for it in found]
+        return found
     before = _characters(text)
-    return [Token(kind, before[start], before[end]) for kind, start, end in found]
+    return [(kind, before[start], before[end]) for kind, start, end in found]
 
 
 def check(query: str) -> None:

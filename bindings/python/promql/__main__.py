@@ -7,13 +7,14 @@ import gc
 import os
 import signal
 import sys
-from typing import List, Optional, TextIO
+from importlib import import_module
+from typing import Any, Iterable, List, Optional, TextIO
 
-from . import check_command, completion_command, format_command, lint_command, lsp_command, metrics_command, page, set_target
+from . import set_target
 from .documents import Status
 from .options import PROGRAM, Parser
 
-COMMANDS = (check_command, format_command, lint_command, metrics_command, lsp_command, page, completion_command)
+COMMANDS = ("check", "format", "lint", "metrics", "lsp", "serve", "completion")
 # After how many new objects cycles are looked for.
 _NEW_OBJECTS = 100_000
 
@@ -21,7 +22,7 @@ _NEW_OBJECTS = 100_000
 def main(arguments: Optional[List[str]] = None) -> int:
     parser = Parser(prog=PROGRAM, description="PromQL from a command line.")
     subparsers = parser.add_subparsers(metavar="COMMAND")
-    for command in COMMANDS:
+    for command in _meant_by(sys.argv[1:] if arguments is None else arguments):
         command.add_parser(subparsers)
     chosen = parser.parse_args(arguments)
     if "run" not in chosen:
@@ -31,6 +32,12 @@ def main(arguments: Optional[List[str]] = None) -> int:
         set_target(chosen.target)
     status: int = chosen.run(chosen)
     return status
+
+
+def _meant_by(words: List[str]) -> Iterable[Any]:
+    """The module of the command that is named first, since it takes long to import all; and all where none is, or where it tells of all."""
+    named = [name for name in words[:1] if name in COMMANDS and name != "completion"]
+    return (import_module(".page" if name == "serve" else f".{name}_command", __package__) for name in named or COMMANDS)
 
 
 def program() -> int:

@@ -4,7 +4,6 @@ from __future__ import annotations
 
 import os
 from enum import IntEnum
-from pathlib import Path
 from typing import Iterable, List, Optional, Protocol, Tuple, Union
 
 
@@ -101,14 +100,13 @@ class Calls(Protocol):
     def version(self) -> Answer: ...
 
 
-def library_path() -> Path:
+def library_path() -> str:
     """The library of the variable PROMQL_LIBRARY, that of the package, or in a checkout that of its dist/."""
-    named = os.environ.get("PROMQL_LIBRARY")
-    return Path(named) if named else packaged("libpromql.so")
+    return os.environ.get("PROMQL_LIBRARY") or packaged("libpromql.so")
 
 
-def packaged(name: str) -> Path:
+def packaged(name: str) -> str:
     """A file that was built for the package: beside this one, or in a checkout in its dist/."""
-    here = Path(__file__).resolve()
-    own = here.with_name(name)
-    return own if own.is_file() else here.parents[3] / "dist" / name
+    here = os.path.dirname(os.path.realpath(__file__))
+    own = os.path.join(here, name)
+    return own if os.path.isfile(own) else os.path.join(os.path.dirname(os.path.dirname(os.path.dirname(here))), "dist", name)

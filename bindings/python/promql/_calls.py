@@ -15,7 +15,7 @@ SUFFIX = ".abi3.so"
 def extension() -> Optional[Calls]:
     """The extension of the variable PROMQL_EXTENSION, that of the package, or in a checkout that of its dist/; None where it does not load
     in this Python, or where the variable is empty."""
-    path = os.environ.get("PROMQL_EXTENSION", str(packaged(f"_native{SUFFIX}")))
+    path = os.environ.get("PROMQL_EXTENSION", packaged(f"_native{SUFFIX}"))
     # (a Python without this suffix may open the file, and end the process)
     if not path or SUFFIX not in EXTENSION_SUFFIXES:
         return None

@@ -55,7 +55,7 @@ _SIGNATURES = {
 
 
 def load() -> ctypes.CDLL:
-    library = ctypes.CDLL(str(library_path()))
+    library = ctypes.CDLL(library_path())
     for name, arguments in _SIGNATURES.items():
         # (an older library has fewer)
         function = getattr(library, name, None)

@@ -5,7 +5,8 @@ from __future__ import annotations
 import json
 import re
 import sys
-from dataclasses import replace
+from array import array
+from itertools import islice
 from typing import Any, Iterator, List, Mapping, NamedTuple, Optional, Tuple
 
 from .checked_queries import Budget, QueryChecker
@@ -73,7 +74,7 @@ class Dashboard:
         return [], []
 
     def same(self, text: str, same_query: SameQuery) -> bool:
-        source, most = replace(self.source, text=text), self.checker.bounds.max_file_nodes
+        source, most = self.source._replace(text=text), self.checker.bounds.max_file_nodes
         _load(source)
         old, new = list(_json_tokens(self.source, most)), list(_json_tokens(source, most))
         return len(old) == len(new) and all(_same(*pair, same_query) for pair in zip(old, new))
@@ -102,19 +103,17 @@ class Dashboard:
         return isinstance(item, dict) and (item.get("type") == "query" or item.get("kind") == "QueryVariable")
 
     def _query(self, string: JsonString, variables: Mapping[str, str], skipped: str) -> Query:
-        whole, text = string.read(), PlacedText()
+        whole = string.read()
         end = len(whole.text) - len(string.after)
-        text.copy(whole, len(string.before), end)
-        offsets = [*whole.offsets, string.end - 1][end : end + 1]
-        text = _substituted(text, variables)
+        offsets = whole.offsets[end : end + 1] or array("L", [string.end - 1])
+        text = _substituted(whole, len(string.before), end, variables)
         if skipped or not VARIABLE.search(text.text):
-            return Query(text.text, [*text.offsets, *offsets], string, skipped, is_unread=skipped == _UNKNOWN_SOURCE)
-        if not self.checker.variables.takes(min(len(VARIABLE.findall(text.text)), MOST_TEXTS)):
+            return Query(text.text, text.offsets + offsets, string, skipped, is_unread=skipped == _UNKNOWN_SOURCE)
+        if not self.checker.variables.takes(sum(1 for _ in islice(VARIABLE.finditer(text.text), MOST_TEXTS))):
             message = f"the queries of the file have more than {self.checker.variables.most:,} variables of Grafana, up to here"
             raise BoundError.of(self.source, string.start, message)
         read = read_variables(text, self.checker)
-        offsets = [*read.text.offsets, *offsets]
-        return Query(read.text.text, offsets, string, read.unknown, variables=read.variables, is_unread=bool(read.unknown))
+        return Query(read.text.text, read.text.offsets + offsets, string, read.unknown, variables=read.variables, is_unread=bool(read.unknown))
 
     def _why_skipped(self, path: JsonPath, value: str) -> str:
         """Why the query in this place is not of Prometheus, or nothing."""
@@ -178,14 +177,16 @@ def _same(old: Tuple[JsonPath, int, str], new: Tuple[JsonPath, int, str], same_q
     return around[0] == around[1] and same_query(*(value[slice(*part)] for value, part in zip(values, parts) if part))
 
 
-def _substituted(text: PlacedText, variables: Mapping[str, str]) -> PlacedText:
-    """A text with the values of the variables that have one."""
-    made, at = PlacedText(), 0
-    for found in VARIABLE.finditer(text.text):
+def _substituted(text: PlacedText, at: int, end: int, variables: Mapping[str, str]) -> PlacedText:
+    """A part of a text with the values of the variables that have one."""
+    if (at, end) == (0, len(text.text)) and not variables:
+        return text
+    made = PlacedText()
+    for found in VARIABLE.finditer(text.text, at, end) if variables else ():
         name = found[1] or found[2] or found[3]
         if name in variables:
             made.copy(text, at, found.start())
             made.put_all(variables[name], text.offsets[found.start()])
             at = found.end()
-    made.copy(text, at, len(text.text))
+    made.copy(text, at, end)
     return made

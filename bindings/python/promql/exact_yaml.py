@@ -5,6 +5,7 @@ from __future__ import annotations
 import importlib
 import importlib.util
 import warnings
+from functools import lru_cache
 from typing import Any, Dict, List
 
 from .checked_queries import NO_BOUND, Budget
@@ -88,8 +89,9 @@ class NoReaderError(FileError):
     """There is no ruamel.yaml."""
 
 
+@lru_cache(maxsize=1)
 def look_for_reader() -> None:
-    """Says so where there is no ruamel.yaml."""
+    """Says so where there is no ruamel.yaml. (The folders of packages are looked through once.)"""
     if not importlib.util.find_spec("ruamel") or not importlib.util.find_spec("ruamel.yaml"):
         raise NoReaderError("rule files need ruamel.yaml: install python3-ruamel.yaml, or `pip install ruamel.yaml`")
 

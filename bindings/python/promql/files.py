@@ -8,11 +8,8 @@ import re
 import signal
 import stat
 import sys
-import tempfile
 from contextlib import contextmanager
-from dataclasses import dataclass
 from functools import cached_property
-from pathlib import Path
 from typing import Iterator, NamedTuple, Optional, Tuple
 
 from .line_index import LineIndex
@@ -72,13 +69,8 @@ class Fault(NamedTuple):
     number: int = 0
 
 
-@dataclass(frozen=True)
-class Source:
+class Source(NamedTuple("Source", [("name", str), ("text", str), ("mark", str)])):
     """A file that was read: its text has the line ends of the file, and not its byte order mark."""
-
-    name: str
-    text: str
-    mark: str
 
     @property
     def data(self) -> bytes:
@@ -174,6 +166,8 @@ def _replace_file(source: Source, data: bytes) -> None:
     _look_at_kind(source.name, status)
     if not os.access(path, os.W_OK):
         raise PermissionError(errno.EACCES, os.strerror(errno.EACCES), source.name)
+    # (importing it takes longer than a small file to check)
+    import tempfile
     descriptor, temporary = tempfile.mkstemp(prefix=".promql-", dir=os.path.dirname(path))
     try:
         with open(descriptor, "wb") as file:
@@ -185,7 +179,7 @@ def _replace_file(source: Source, data: bytes) -> None:
             for attribute in os.listxattr(path):
                 os.setxattr(descriptor, attribute, os.getxattr(path, attribute))
             os.fsync(descriptor)
-        if Path(path).read_bytes() != source.data:
+        if _read_bytes(path) != source.data:
             raise FileError(f"{source.name}: left as it is: it was changed meanwhile")
         os.replace(temporary, path)
     except BaseException:

@@ -3,22 +3,24 @@
 from __future__ import annotations
 
 import argparse
-import difflib
 import re
 import sys
+from bisect import bisect_right
 from dataclasses import dataclass
+from difflib import SequenceMatcher
 from functools import partial
-from typing import Any, Callable, ContextManager, Dict, Iterator, List, Optional, Tuple
+from itertools import accumulate
+from typing import Any, Callable, ContextManager, Iterator, List, Optional, Sequence, Tuple
 
 import promql
 
-from .checked_queries import QueryChecker, limited_to
+from .checked_queries import Budget, QueryChecker, limited_to
 from .documents import Document, Skipped, Status, read_document
 from .files import BLANKS, STDIN, BoundError, FileError, write_file
 from .jobs import Report, add_arguments, as_bytes, bounds_of, skipped_file, work_on
 from .messages import ERROR, KEPT, LAYOUT, REJECTED, RULE, WARNING, Message, in_order, kind_of_skipped, left_out, of_error, of_file, placed
 from .options import PEOPLE, PRETTY, STYLES, WIDTH, whole_number
-from .queries import Query, SameQuery, edited
+from .queries import Edit, Query, SameQuery, edited
 from .targets import Target, targets_of
 from .token_texts import comments_of
 from .visible import visible
@@ -31,6 +33,8 @@ _NOT_BACK = "its variables of Grafana would not come back"
 # The status where the width or the indentation is more than there may be.
 _TOO_WIDE = 9
 _LINE = re.compile(r"[^\n]*\n|[^\n]+")
+# Lines that differ are compared where an edit has so many pairs of them, and those of a file have; others are shown as written anew.
+_LARGEST_COMPARED, _MOST_COMPARED = 40_000, 4_000_000
 
 
 def add_parser(subparsers: Any) -> None:
@@ -191,8 +195,8 @@ def _format_file(enforcer: Callable[[str], str], arguments: argparse.Namespace, 
         messages += left_out(document, arguments.verbose)
         queries = len(document.queries)
         changes = _changes(document, printer, messages)
-        text = _formatted(document, printer, changes)
-        out = _put_out(target.name, document, text, arguments)
+        edits = [query.spelling.edit(text) for query, text in changes]
+        out = _put_out(target.name, document, _formatted(document, printer, changes, edits), edits, arguments)
         if arguments.check or arguments.diff:
             source = document.source
             messages += [placed(source, query.whole("laid out otherwise"), ERROR, LAYOUT) for query, _ in changes]
@@ -211,19 +215,17 @@ class _FaultsError(FileError):
         self.messages = [it._replace(status=Status.FAILED) if it.status == Status.FOUND else it for it in messages]
 
 
-def _formatted(document: Document, printer: Printer, changes: List[Tuple[Query, str]]) -> str:
+def _formatted(document: Document, printer: Printer, changes: List[Tuple[Query, str]], edits: List[Edit]) -> str:
     """The text of the file with its queries as they are to be."""
     if not changes:
         return document.source.text
-    texts: Dict[str, List[Tuple[Query, str]]] = {}
-    for query, text in changes:
-        texts.setdefault(query.original, []).append((query, text))
+    queries = {(query.original, text): query for query, text in changes}
 
     def same_query(old: str, new: str) -> bool:
-        queries = [query for query, text in texts.get(old, ()) if text == new.rstrip(BLANKS)]
-        return old == new or any(printer.means(new, query) for query in queries[:1])
+        query = queries.get((old, new.rstrip(BLANKS)))
+        return old == new or query is not None and printer.means(new, query)
 
-    text = edited(document.source.text, (query.spelling.edit(text) for query, text in changes))
+    text = edited(document.source.text, edits)
     if not _reads_as(document, text, same_query):
         raise FileError(f"{document.source.name}: left as it is: formatted, it would not be read as the same", Status.UNFAITHFUL)
     return text
@@ -280,12 +282,12 @@ def _changes(document: Document, printer: Printer, messages: List[Message]) -> L
     return changes
 
 
-def _put_out(name: str, document: Document, text: str, arguments: argparse.Namespace) -> str:
+def _put_out(name: str, document: Document, text: str, edits: List[Edit], arguments: argparse.Namespace) -> str:
     """Does with the new text of a file what the options say, and returns what is to be printed."""
     source = document.source
     changed = text != source.text
     if arguments.check or arguments.diff:
-        said = f"{visible(source.name)}\n" if arguments.check else "".join(_diff(source.name, source.text, text))
+        said = f"{visible(source.name)}\n" if arguments.check else "".join(_diff(source.name, source.text, text, edits))
         return said if changed else ""
     if not arguments.write or name == STDIN:
         return source.mark + text
@@ -294,6 +296,47 @@ def _put_out(name: str, document: Document, text: str, arguments: argparse.Names
     return ""
 
 
-def _diff(name: str, old: str, new: str) -> Iterator[str]:
-    for line in difflib.unified_diff(_LINE.findall(old), _LINE.findall(new), name, name):
-        yield line if line.endswith("\n") else f"{line}\n\\ No newline at end of file\n"
+def _diff(name: str, old: str, new: str, edits: Sequence[Edit]) -> Iterator[str]:
+    """What edits change, as `diff -u` prints it. The lines that an edit changes are compared by themselves, so that many take no longer."""
+    lines, others = _LINE.findall(old), _LINE.findall(new)
+    done, budget, matcher = (0, 0), Budget(_MOST_COMPARED), SequenceMatcher(None, "", "")
+    matcher.opcodes = codes = []  # type: ignore[attr-defined]
+    for i1, i2, j1, j2 in _changed_lines(lines, others, edits):
+        codes += [("equal", done[0], i1, done[1], j1)] if i1 > done[0] else []
+        pairs, done = (i2 - i1) * (j2 - j1), (i2, j2)
+        is_short = pairs <= _LARGEST_COMPARED and budget.takes(pairs)
+        found = SequenceMatcher(None, lines[i1:i2], others[j1:j2]).get_opcodes() if is_short else [("replace", 0, i2 - i1, 0, j2 - j1)]
+        codes += [(tag, i1 + it[0], i1 + it[1], j1 + it[2], j1 + it[3]) for tag, *it in found]
+    yield f"--- {name}\n+++ {name}\n"
+    for group in matcher.get_grouped_opcodes():
+        yield f"@@ -{_range(group[0][1], group[-1][2])} +{_range(group[0][3], group[-1][4])} @@\n"
+        for tag, i1, i2, j1, j2 in group:
+            signs = (" ", "") if tag == "equal" else ("-", "+")
+            for line in [signs[0] + it for it in lines[i1:i2]] + [signs[1] + it for it in others[j1:j2] if signs[1]]:
+                yield line if line.endswith("\n") else f"{line}\n\\ No newline at end of file\n"
+
+
+def _range(first: int, end: int) -> str:
+    """Lines as `diff -u` numbers them: of none that before them."""
+    return f"{first + 1}" if end - first == 1 else f"{first + (end > first)},{end - first}"
+
+
+def _changed_lines(lines: List[str], others: List[str], edits: Sequence[Edit]) -> Iterator[Tuple[int, int, int, int]]:
+    """The lines that edits change, and those that are there instead, by the numbers of both; at last none, at the end."""
+    ends, new_ends = ([*accumulate(map(len, it))] for it in (lines, others))
+    parts: List[Tuple[int, int, int, int]] = []
+    longer = 0
+    for edit in sorted(edits):
+        first, new_first = bisect_right(ends, edit.start), bisect_right(new_ends, edit.start + longer)
+        longer += len(edit.text) - (edit.end - edit.start)
+        last, new_last = bisect_right(ends, edit.end) + 1, bisect_right(new_ends, edit.end + longer) + 1
+        if parts and first <= parts[-1][1]:
+            first, _, new_first, _ = parts.pop()
+        parts.append((first, min(last, len(lines)), new_first, min(new_last, len(others))))
+    for i1, i2, j1, j2 in parts:
+        while i1 < i2 and j1 < j2 and lines[i1] == others[j1]:
+            i1, j1 = i1 + 1, j1 + 1
+        while i1 < i2 and j1 < j2 and lines[i2 - 1] == others[j2 - 1]:
+            i2, j2 = i2 - 1, j2 - 1
+        yield i1, i2, j1, j2
+    yield len(lines), len(lines), len(others), len(others)

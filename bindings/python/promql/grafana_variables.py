@@ -185,8 +185,11 @@ def _is_doubtful(error: promql.QueryError, span: Span) -> bool:
 
 def _trials(query: str) -> Iterator[Variables]:
     """The ways to read the variables of a query, the most likely one first."""
+    # (there may be many)
+    if sum(1 for _ in islice(VARIABLE.finditer(query), MOST_TEXTS + 1)) > MOST_TEXTS:
+        return
     places = places_of(query)
-    if len(VARIABLE.findall(query)) > MOST_TEXTS or any(not place.kinds for place in places):
+    if any(not place.kinds for place in places):
         return
     open_places = sorted({(query[place.start : place.end], place.kinds) for place in places if len(place.kinds) > 1})
     most = min(_MOST_TRIALS, 1 + _MOST_READ // (len(query) + 1))
@@ -309,7 +312,8 @@ def _as_token(query: str, token: Token, before: str, after: str, opened: str) ->
     if "." in rest or token.text[0].isdigit():
         return _NUMBER, False
     if opened != "{" and after in ("(", "by", "without"):
-        return _functions(query), False
+        # (those names that the query has not)
+        return (*(name for name in _FUNCTIONS if name not in query), *_WORD), False
     return (_kinds(token.text, before, after, opened), False) if is_variable else None
 
 
@@ -320,8 +324,3 @@ def _kinds(variable: str, before: str, after: str, opened: str) -> Tuple[str, ..
     if variable.strip("${}[]").partition(":")[0] in _NUMBERS:
         return (*_NUMBER, *_WORD)
     return (*_WORD, *_NUMBER, *_STRING, *_RANGE)
-
-
-def _functions(query: str) -> Tuple[str, ...]:
-    """What the name of a function may be read as: names that the query has not."""
-    return (*(name for name in _FUNCTIONS if name not in query), *_WORD)

@@ -3,7 +3,6 @@
 from __future__ import annotations
 
 import argparse
-import multiprocessing
 import os
 import sys
 from functools import partial
@@ -24,6 +23,9 @@ from .team_settings import settings_read_anew, with_settings
 from .visible import visible
 
 _MOST_JOBS = 256
+# For so many files one more process is worth its start.
+_FILES_OF_JOB = 100
+_JOBS = f"1, and 1 more for each {_FILES_OF_JOB} files, up to the number of processors"
 _BOUNDS = {
     "max_file_patterns": "the most that the patterns of a file may measure together",
     "max_file_nodes": "the most nodes that the YAML of a file may have, or values that its JSON may have",
@@ -90,12 +92,12 @@ ConfiguredWork = Callable[[argparse.Namespace, Target], Report]
 AtEnd = Callable[[List[Any]], Tuple[str, Report]]
 
 
-def add_arguments(parser: Any, without_file: str = "", outputs: Iterable[str] = OUTPUTS) -> None:
-    """What the commands over files have in common. Some do something without a file."""
-    files = "a rule file, a dashboard (.json), a folder with rule files, or - for standard input"
+def add_arguments(parser: Any, without_file: str = "without one it is read", jobs: str = _JOBS, outputs: Iterable[str] = OUTPUTS) -> None:
+    """What the commands over files have in common."""
+    files = "a rule file, a dashboard (.json), a folder with rule files, or - for standard input; "
     parser.add_argument("files", nargs="*", metavar="FILE", help=files + without_file)
     parser.add_argument("--dashboard", action="store_true", help="all files are dashboards")
-    parser.add_argument("--jobs", type=partial(whole_number, least=1, most=_MOST_JOBS), default=1, metavar="N", help="so many processes (1)")
+    parser.add_argument("--jobs", type=partial(whole_number, least=1, most=_MOST_JOBS), metavar="N", help=f"so many processes ({jobs})")
     colors.add_argument(parser)
     add_target(parser)
     for name, most in FileBounds()._asdict().items():
@@ -143,8 +145,9 @@ def work_on(
 ) -> Status:
     """Puts out what is said of each file and then of all together, and returns the status that counts. It can go on where the output
     cannot be written."""
-    if not targets:
+    if not targets and (sys.stdin is None or sys.stdin.isatty()):
         arguments.wrong("no FILE is named")
+    targets = targets or [Target(STDIN)]
     with_colors = colors.are_wanted(arguments.color, sys.stderr)
     worst, queries = Status.FINE, 0
     told: List[Told] = []
@@ -203,9 +206,9 @@ def no_query(files: int) -> Message:
     return Message(ERROR, EMPTY, message, text=message)
 
 
-def reports_of(targets: List[Target], work: Work, jobs: int) -> Iterator[Report]:
+def reports_of(targets: List[Target], work: Work, jobs: Optional[int]) -> Iterator[Report]:
     """What is said of each file, in their order."""
-    jobs = min(jobs, len(targets))
+    jobs = min(jobs or 1 + len(targets) // _FILES_OF_JOB, len(targets), _MOST_JOBS if jobs else len(os.sched_getaffinity(0)))
     names = [target.name for target in targets]
     # (standard input is that of one process, and a file that is there twice is written once after the other)
     alone = jobs == 1 or STDIN in names or len({os.path.realpath(name) for name in names}) < len(names)
@@ -215,8 +218,9 @@ def reports_of(targets: List[Target], work: Work, jobs: int) -> Iterator[Report]
 
 def _in_processes(targets: List[Target], work: Work, jobs: int) -> Iterator[Report]:
     """The reports of processes that take turns with the files, so that none is far ahead of what is put out."""
+    import multiprocessing
     context = multiprocessing.get_context("fork")
-    readers: List[Connection] = []
+    readers: List[Any] = []
     for number in range(jobs):
         reader, writer = context.Pipe(duplex=False)
         readers.append(reader)
@@ -230,7 +234,7 @@ def _in_processes(targets: List[Target], work: Work, jobs: int) -> Iterator[Repo
         yield report
 
 
-def _send(targets: List[Target], work: Work, writer: Connection, readers: List[Connection]) -> None:
+def _send(targets: List[Target], work: Work, writer: Any, readers: List[Any]) -> None:
     """What a process does: where nobody reads its reports any more, it ends by SIGPIPE."""
     for reader in readers:
         reader.close()

@@ -4,7 +4,6 @@ from __future__ import annotations
 
 import argparse
 import os
-from dataclasses import replace
 from typing import Any, List, Tuple
 
 from .checked_queries import QueryChecker
@@ -24,13 +23,13 @@ from .visible import visible
 
 def add_parser(subparsers: Any) -> None:
     parser = subparsers.add_parser("lint", help="find what is most likely not meant in queries", description=__doc__)
-    add_arguments(parser, "; without one and without --query, standard input is a query")
+    add_arguments(parser, "without one and without --query it is a query", "1")
     parser.add_argument("-q", "--query", action="append", default=[], metavar="QUERY", help="look at this query; may be there again")
     parser.add_argument("--select", action="append", default=[], type=_codes, metavar="CODES", help="look for these codes alone: P101,P2")
     parser.add_argument("--ignore", action="append", default=[], type=_codes, metavar="CODES", help="leave these codes out")
     parser.add_argument("--fix", action="store_true", help="change the files by what is safe; print queries that are given")
     parser.add_argument("--rules", action="store_true", help="print the codes of the rules, and end")
-    parser.set_defaults(run=_run, command="lint")
+    parser.set_defaults(run=_run, command="lint", jobs=1)
 
 
 def _codes(text: str) -> Tuple[str, ...]:
@@ -48,7 +47,6 @@ def _run(arguments: argparse.Namespace) -> int:
         arguments.wrong("--fix prints queries and standard input with their fixes, and no other output")
     targets = [Target(f"<query {number}>", query=query) for number, query in enumerate(arguments.query, 1)]
     targets += targets_of(arguments.files, arguments.dashboard)
-    targets = targets or [Target(STDIN)]
     files = [it.name for it in targets if it.query is None]
     # (standard input and pipes are read once, and what one file records is known when it is read)
     is_alone = len(set(files)) < 2 or any(it == STDIN or os.path.exists(it) and not os.path.isfile(it) for it in files)
@@ -97,11 +95,11 @@ def _fix_file(arguments: argparse.Namespace, selection: Selection, target: Targe
     text, count = linter.fixed()
     source = document.source
     if isinstance(document, GivenQuery):
-        source = replace(source, text=text)
+        source = source._replace(text=text)
         linter = FileLinter(GivenQuery(source, document.checker.anew()), selection)
         found = linter.findings()
         status = Status.FAILED if linter.left else Status.FINE
-        messages = [finding._replace(text=source.shown(fault_of(it))) for it, finding in zip(found, _messages(source, found))]
+        messages = [_message(source, it)._replace(text=source.shown(fault_of(it))) for it in found]
         messages += _not_looked_at(source, linter)
         return Report(status, as_bytes(text if text.endswith("\n") else f"{text}\n"), messages, 1)
     if target.name == STDIN:
@@ -119,7 +117,9 @@ def _report(arguments: argparse.Namespace, document: Document, selection: Select
     status = Status.FAILED if linter.left else Status.FINE
     messages = list(left_out(document, arguments.verbose))
     messages += [placed(source, fault, ERROR, RULE, source.shown(fault)) for fault in listed(document.faults, "errors")]
-    messages += [*_not_looked_at(source, linter), *skipped_queries(document, arguments.verbose), *_messages(source, found)]
+    messages += [*_not_looked_at(source, linter), *skipped_queries(document, arguments.verbose)]
+    # (the findings themselves are printed to standard output)
+    messages += [_message(source, it) for it in found]
     skipped = sum(1 for query in document.queries if query.skipped)
     counts = [f"{skipped} skipped"] if skipped else []
     counts += [*notes, counted(len(found), "finding", "findings")]
@@ -130,11 +130,6 @@ def _report(arguments: argparse.Namespace, document: Document, selection: Select
 
 def _not_looked_at(source: Source, linter: FileLinter) -> List[Message]:
     return [placed(source, fault, ERROR, UNREAD, source.shown(fault)) for fault in listed(linter.left, "errors")]
-
-
-def _messages(source: Source, found: List[FileFinding]) -> List[Message]:
-    """The findings, which are printed to standard output."""
-    return [_message(source, it) for it in found]
 
 
 def _message(source: Source, found: FileFinding) -> Message:

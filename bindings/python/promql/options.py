@@ -3,7 +3,6 @@
 from __future__ import annotations
 
 import argparse
-import difflib
 import sys
 from typing import Any, Iterable, List, NoReturn, Optional, Sequence, Tuple
 
@@ -51,6 +50,7 @@ class Parser(argparse.ArgumentParser):
 
 def _nearest(word: str, known: Iterable[str]) -> str:
     """A hint at the word that is most likely meant, if one is near."""
+    import difflib
     return "".join(f": did you mean {near}?" for near in difflib.get_close_matches(word, known, 1))
 
 

@@ -4,9 +4,8 @@ from __future__ import annotations
 
 import json
 import os
+from html import escape
 from typing import Any, Callable, Dict, Iterator, List, NamedTuple, Sequence
-from urllib.parse import quote
-from xml.sax.saxutils import escape, quoteattr
 
 import promql
 
@@ -82,6 +81,7 @@ def _sarif_result(message: Message, index: int) -> Json:
     }
     if not message.file:
         return result
+    from urllib.parse import quote
     location: Json = {"uri": quote(os.fsencode(message.file))}
     place: Json = {"artifactLocation": location}
     if message.region:
@@ -137,14 +137,14 @@ def as_junit(command: str, told: List[Told]) -> str:
 def _cases(told: Told) -> Iterator[str]:
     others = [message for message, fails in zip(told.messages, told.failures) if not fails]
     if len(others) == len(told.messages):
-        said = "".join(f"      <system-out>{escape(visible(_with_place(it)))}</system-out>\n" for it in others)
+        said = "".join(f"      <system-out>{escape(visible(_with_place(it)), False)}</system-out>\n" for it in others)
         yield _case(told.file, told.file, said)
     for message, fails in zip(told.messages, told.failures):
         if fails:
             kind = "error" if message.code == FILE else "failure"
             text = visible(_with_place(message))
             about = f"type={_attribute(message.code)} message={_attribute(message.message)}"
-            yield _case(f"{_with_place(message, '')} {message.code}", message.file or told.file, f"      <{kind} {about}>{escape(text)}</{kind}>\n")
+            yield _case(f"{_with_place(message, '')} {message.code}", message.file or told.file, f"      <{kind} {about}>{escape(text, False)}</{kind}>\n")
 
 
 def _case(name: str, file: str, content: str) -> str:
@@ -153,7 +153,7 @@ def _case(name: str, file: str, content: str) -> str:
 
 
 def _attribute(text: str) -> str:
-    return quoteattr(visible(text))
+    return f'"{escape(visible(text))}"'
 
 
 def _with_place(message: Message, rest: str = ": {0.severity} {0.code}: {0.message}") -> str:

@@ -3,7 +3,6 @@
 from __future__ import annotations
 
 import os
-import shutil
 import signal
 import time
 from contextlib import suppress
@@ -22,6 +21,7 @@ def with_progress(names: Sequence[str], made: Iterable[Made], stream: TextIO) ->
     if not stream.isatty() or os.environ.get("TERM") == "dumb":
         yield from zip(names, made)
         return
+    import shutil
     rest, end = iter(made), time.monotonic() + _PATIENCE
     for number, name in enumerate(names, 1):
         line = f"{number} of {len(names)}: {visible(name)}"[: shutil.get_terminal_size().columns - 1]

@@ -2,6 +2,7 @@
 
 from __future__ import annotations
 
+from array import array
 from typing import Callable, Iterable, List, NamedTuple, Optional, Protocol, Sequence
 
 import promql
@@ -25,7 +26,8 @@ class PlacedText:
 
     def __init__(self) -> None:
         self._parts: List[str] = []
-        self.offsets: List[int] = []
+        # (a list of numbers has five times as many bytes)
+        self.offsets: array[int] = array("L")
 
     @property
     def text(self) -> str:
@@ -40,7 +42,7 @@ class PlacedText:
     def put_all(self, text: str, offset: int) -> None:
         """Adds a text whose characters all have the same place."""
         self._parts.append(text)
-        self.offsets.extend([offset] * len(text))
+        self.offsets.extend(array("L", [offset]) * len(text))
 
     def copy(self, other: PlacedText, start: int, end: int) -> None:
         self._parts.append(other.text[start:end])

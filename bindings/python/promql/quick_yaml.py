@@ -152,23 +152,24 @@ class _Composer:
         self.scalars: List[_Span] = []
 
     def documents(self, loader: Any) -> List[Node]:
+        yaml: Any = importlib.import_module("yaml")
         steps = {
-            "ScalarEvent": self._add_scalar,
-            "MappingStartEvent": self._begin,
-            "SequenceStartEvent": self._begin,
-            "MappingEndEvent": self._end,
-            "SequenceEndEvent": self._end,
-            "AliasEvent": self._add_alias,
-            "DocumentStartEvent": self._begin_document,
+            yaml.ScalarEvent: self._add_scalar,
+            yaml.MappingStartEvent: self._begin,
+            yaml.SequenceStartEvent: self._begin,
+            yaml.MappingEndEvent: self._end,
+            yaml.SequenceEndEvent: self._end,
+            yaml.AliasEvent: self._add_alias,
+            yaml.DocumentStartEvent: self._begin_document,
         }
         reader = loader(self._text)
         try:
             while event := reader.get_event():
-                step = steps.get(type(event).__name__)
+                step = steps.get(type(event))
                 if step:
                     step(event)
         # (an error of YAML, of any kind, is told by the other reader)
-        except (importlib.import_module("yaml").YAMLError, ValueError, OverflowError) as error:
+        except (yaml.YAMLError, ValueError, OverflowError) as error:
             mark = getattr(error, "problem_mark", None)
             raise Unclear(mark.index if mark else 0, f"not YAML to libyaml: {getattr(error, 'problem', error)}") from error
         finally:
@@ -216,7 +217,7 @@ class _Composer:
         if len(self._open) == _MOST_LEVELS:
             raise Unclear
         kind = "mapping" if type(event).__name__ == "MappingStartEvent" else "sequence"
-        self._open.append(self._add(kind, [], "{" * bool(event.flow_style), event))
+        self._open.append(self._add(kind, [], "{" if event.flow_style else "", event))
         self._flows += bool(event.flow_style)
         self._items.append([])
 

@@ -55,10 +55,11 @@ _Identity = Tuple[str, FrozenSet[Tuple[str, str]]]
 class RuleChecks:
     """What is found in the groups of a file: faults, and warnings of what Prometheus takes."""
 
-    def __init__(self, mappings: Mappings) -> None:
+    def __init__(self, mappings: Mappings, has_aliases: bool) -> None:
         self.faults: List[Fault] = []
         self.warnings: List[Fault] = []
         self._mappings = mappings
+        self._has_aliases = has_aliases
         # Each node is looked at once as what it is, however many aliases it has.
         self._seen: Set[Tuple[str, int]] = set()
         self._fields: FrozenSet[str] = frozenset()
@@ -119,7 +120,7 @@ class RuleChecks:
         value = self._mappings.value(rule, "record")
         if value and record and not _METRIC.fullmatch(record):
             self._complain(value, f"not a metric's name: `{record}`")
-        for key in ("record", "alert", "expr"):
+        for key in ("record", "alert", "expr") if self._has_aliases else ():
             self._look_for_alias(rule, key)
         for key in ("for", "keep_firing_for"):
             if self._duration(rule, key) and record:

@@ -2,7 +2,6 @@
 
 from __future__ import annotations
 
-from difflib import get_close_matches
 from enum import Enum
 from typing import Iterator, List, NamedTuple, Optional, Sequence, Set
 
@@ -127,6 +126,7 @@ def _document_of(node: Node, mappings: Mappings) -> RuleDocument:
 
 def _misspelled_groups(node: Node, mappings: Mappings) -> Optional[Node]:
     """The key of groups that is most likely meant as `groups`, where a mapping has one."""
+    from difflib import get_close_matches
     for key, value in mappings.entries(node):
         if key.is_scalar() and _are_groups(value, mappings) and get_close_matches(str(key.value), ("groups",), cutoff=0.8):
             return key

@@ -5,10 +5,10 @@ The reader of YAML only finds them. What is written is the text of the file, wit
 
 from __future__ import annotations
 
-from dataclasses import replace
+from array import array
 from functools import partial
 from itertools import islice
-from typing import Any, Callable, Dict, Iterator, List, Optional, Set, Tuple, Union
+from typing import Any, Callable, Dict, Iterator, List, Optional, Sequence, Set, Tuple, Union
 
 from . import limits
 from .checked_queries import NO_BOUND, QueryChecker
@@ -82,7 +82,7 @@ class RuleFile:
         # (a key `groups` is one of other tools as well, but not with queries)
         self.is_known |= "expr" in source.text and any(it.kind is Kind.RULES for it in self.documents)
 
-    def _take_text(self, name: str, text: Source, offsets: List[int]) -> None:
+    def _take_text(self, name: str, text: Source, offsets: Sequence[int]) -> None:
         """Reads a file that is a text of this one."""
         file: Union[Dashboard, RuleFile]
         try:
@@ -120,7 +120,7 @@ class RuleFile:
 
     def checks(self) -> Tuple[List[Fault], List[Fault]]:
         mappings = self._parts.mappings
-        found = RuleChecks(mappings)
+        found = RuleChecks(mappings, self._parts.yaml.has_aliases)
         try:
             for document in self._parts.documents:
                 if document.kind is not Kind.RULES:
@@ -140,7 +140,7 @@ class RuleFile:
         return found.faults, found.warnings
 
     def same(self, text: str, same_query: SameQuery) -> bool:
-        old, new = self._both(replace(self.source, text=text))
+        old, new = self._both(self.source._replace(text=text))
         return len(old) == len(new) and all(_same(*roots, same_query) for roots in zip(old, new))
 
     def _both(self, new: Source) -> Tuple[List[Node], List[Node]]:
@@ -163,7 +163,7 @@ class _Parts:
         self.faults: List[Fault] = []
         self.unread: List[Fault] = []
         # The name of each text that is a file, the text, and the places of its characters.
-        self.texts: List[Tuple[str, str, List[int]]] = []
+        self.texts: List[Tuple[str, str, Sequence[int]]] = []
         self.rules = 0
         self.tests = 0
         # The key and the value of each `expr`, once for all its aliases.
@@ -305,7 +305,8 @@ class _Parts:
             scalar = self._scalar(key, node)
             # (a longer text is rejected as a whole)
             is_long, start = len(node.value) > limits()["max_len"], scalar.start + len(scalar.style)
-            offsets = [*range(start, start + len(node.value)), scalar.end] if is_long else scalar.offsets(node.value)
+            characters = range(start, start + len(node.value))
+            offsets = array("L", characters) + array("L", [scalar.end]) if is_long else scalar.offsets(node.value)
             if offsets is None:
                 self.yaml.refuse()
                 self.faults.append(Fault(scalar.start, scalar.start, _UNREAD))

@@ -4,6 +4,7 @@ from __future__ import annotations
 
 import re
 import sys
+from array import array
 from typing import Iterable, Iterator, List, Match, NamedTuple, Optional, Tuple
 
 from .files import BLANKS, BREAK
@@ -17,7 +18,8 @@ _FOLD = re.compile(rf"[ \t]*{BREAK}(?:[ \t]*{BREAK})*[ \t]*")
 _RUN = re.compile(r"(?:[^\\' \t\r\n]|[ \t]+(?![ \t\r\n]))+")
 _CONTINUATION = re.compile(rf"\\{BREAK}((?:[ \t]*{BREAK})*)[ \t]*")
 _ESCAPE = re.compile(r"\\(?:x([0-9A-Fa-f]{2})|u([0-9A-Fa-f]{4})|U([0-9A-Fa-f]{8})|(.))")
-_BELOW = re.compile(rf"[^\r\n]*(?:{BREAK}[ \t]*)*{BREAK}( *)#")
+# (each matches without a second try)
+_REST, _BLANK = re.compile(r"[^\r\n]*"), re.compile(r"[ \t\r\n]*")
 # What an escape of one character means.
 _ESCAPES = dict(zip('0abt\tnvfre "/\\N_LP', '\0\a\b\t\t\n\v\f\r\x1b "/\\\x85\xa0\u2028\u2029'))
 _HEADER = re.compile(r"[|>]([-+1-9]*)([^\r\n]*)")
@@ -43,10 +45,10 @@ class Scalar(NamedTuple):
     # The column of its key, from 0.
     column: int
 
-    def offsets(self, value: str) -> Optional[List[int]]:
+    def offsets(self, value: str) -> Optional[array[int]]:
         """The place of each character of this value, and of its end; or nothing, where it is read as another value here."""
         reading = _block_of(self, value) if self.is_block() else _flow(self)
-        return [*reading.offsets, self._content_end()] if reading and reading.text == value else None
+        return reading.offsets + array("L", [self._content_end()]) if reading and reading.text == value else None
 
     def room(self, width: int) -> int:
         one_line = self.in_flow or self.has_comment_below()
@@ -64,8 +66,11 @@ class Scalar(NamedTuple):
 
     def has_comment_below(self) -> bool:
         """Whether the next line but blank ones is a comment as far in as the lines of a block, which would be of the block."""
-        below = _BELOW.match(self.source, self._content_end())
-        return below is not None and len(below[1]) >= self.column + _STEP
+        rest = _REST.match(self.source, self._content_end())
+        blank = _BLANK.match(self.source, rest.end()) if rest else None
+        before = blank[0] if blank and self.source.startswith("#", blank.end()) else ""
+        line = before[max(before.rfind("\n"), before.rfind("\r")) + 1 :]
+        return line != before and "\t" not in line and len(line) >= self.column + _STEP
 
     def _content_end(self) -> int:
         """Where the text ends: before a quote, and in a block before the blank lines after it."""

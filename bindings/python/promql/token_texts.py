@@ -54,7 +54,7 @@ def tokens_of(query: str) -> Tuple[Token, ...]:
 # (few: those of a long query that is typed in are large)
 @lru_cache(maxsize=32)
 def _tokens_of(query: str) -> Tuple[Token, ...]:
-    return tuple(Token(kind, query[start:end], start, end) for kind, start, end in promql.tokens(query))
+    return tuple([Token(kind, query[start:end], start, end) for kind, start, end in promql._tokens(query)])
 
 
 def code_of(query: str) -> List[Token]:

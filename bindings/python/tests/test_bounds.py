@@ -307,10 +307,22 @@ class LargeFiles(unittest.TestCase):
             self.assertEqual(":6:23: not looked at from here on: the queries of the file have more than 17 tokens" in ran.err, status == 2)
         with mock.patch.object(known_looks.LOOKS, "_known", {}):
             ran = self.ran("a.yml", text, "lint", "--fix", "--max-lint-tokens=30")
-        # (the first one is looked at three times for its fix)
-        self.assertEqual((ran.status, ran.out.count(" P601: ")), (1, 4))
+        # (each is looked at twice for its fix, as it is and as it is changed)
+        self.assertEqual((ran.status, ran.out.count(" P601: ")), (1, 3))
         budget = Budget(5)
         self.assertEqual([budget.takes(amount) for amount in (5, 0, 1, 0)], [True, True, False, False])
+
+    def test_circles(self):
+        """Queries of rules that seem to be in a circle are read as far as their tokens go, each once."""
+        text = RULE + "".join(f"  - {{record: a, expr: 'b{number} # a'}}\n" for number in range(9)) * 2
+        said = ":1:1: not looked for: all rules in a circle, of which the queries have more than 40 tokens (--max-lint-tokens)"
+        for count, is_told in ((40, True), (54, False)):
+            with mock.patch.object(known_looks.LOOKS, "_known", {}):
+                self.assertEqual(said in self.ran("a.yml", text, "lint", f"--max-lint-tokens={count}").err, is_told)
+        text = RULE + "".join(f"  - {{record: a, expr: '{'+'.join(['(a)'] * 400)}+{number}'}}\n" for number in range(600))
+        with mock.patch.object(known_looks.LOOKS, "_known", {}):
+            ran = self.ran("a.yml", text, "lint")
+        self.assertEqual((ran.status, "--max-lint-tokens" in ran.err), (2, True))
 
     def test_changed(self):
         """Long parts that change are not compared where there are many of them."""

@@ -10,6 +10,7 @@ from unittest import mock
 import promql
 from command_line import run
 from promql.dashboards import JsonString
+from promql.exact_yaml import look_for_reader
 from promql.queries import Edit
 
 HERE = Path(__file__).resolve().parent
@@ -211,6 +212,8 @@ class WithoutYaml(Folder):
     def test_message(self):
         path = self.folder / "a.yml"
         path.write_text("groups: []\n")
+        look_for_reader.cache_clear()
+        self.addCleanup(look_for_reader.cache_clear)
         with mock.patch.dict("sys.modules", {"ruamel.yaml": None}):
             for command in ("check", "format"):
                 ran = run(command, path)

@@ -277,7 +277,7 @@ class StandIns(unittest.TestCase):
         for query in QUERIES:
             made = read(query).text
             self.assertEqual(len(made.text), len(made.offsets))
-            self.assertEqual(made.offsets, sorted(made.offsets))
+            self.assertEqual([*made.offsets], sorted(made.offsets))
             for character, offset in zip(made.text, made.offsets):
                 self.assertTrue(character == query[offset] or VARIABLE.search(query, max(0, offset - 3)), query)
 

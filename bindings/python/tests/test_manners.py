@@ -1,6 +1,8 @@
 """Tests of what all subcommands of `promql-rules` have in common, as a table: each of them by each point."""
 
+import contextlib
 import importlib.util
+import io
 import os
 import pty
 import subprocess
@@ -14,7 +16,7 @@ from unittest import mock
 import promql
 from command_line import run
 from promql import progress
-from promql.__main__ import COMMANDS
+from promql.__main__ import COMMANDS, main
 
 try:
     import ruamel.yaml  # noqa: F401
@@ -34,11 +36,9 @@ COMMAND_NAMES = {words[0] for words in OVER_FILES + OTHERS}
 WRONG_WORDS = (
     (("check", "--colr", "never", "a.yml"), "no option is called --colr: did you mean --color?"),
     (("check", "--max-lenn=5", "a.yml"), "no option is called --max-lenn: did you mean --max-len?"),
-    (("check",), "no FILE is named"),
     (("format", "--wdth", "5", "a.yml"), "no option is called --wdth: did you mean --width?"),
     (("format", "--keep-speling", "a.yml"), "no option is called --keep-speling: did you mean --keep-spelling?"),
     (("format", "--style", "peple", "a.yml"), "argument --style: 'peple' is none of people, pretty: did you mean people?"),
-    (("format",), "no FILE is named"),
     (("lint", "--selekt", "P1"), "no option is called --selekt: did you mean --select?"),
     (("lint", "--jobs=x", "a.yml"), "argument --jobs: not a number from 1 to 256: 'x'"),
     (("metrics", "--output", "jsn", "a.yml"), "argument --output: 'jsn' is none of text, json: did you mean json?"),
@@ -55,6 +55,17 @@ WRONG_WORDS = (
     (("check", "\x1b]0;x\x07", "--\x1b"), "no option is called --\\x1b"),
     ((), "no COMMAND is named"),
 )
+
+
+def without_input(*words):
+    """The status of a run, and the last line that it says; it reads standard input as it is here."""
+    said = io.StringIO()
+    with contextlib.redirect_stderr(said):
+        try:
+            status = main([*words])
+        except SystemExit as ended:
+            status = ended.code
+    return status, said.getvalue().splitlines(keepends=True)[-1]
 
 
 class Folder(unittest.TestCase):
@@ -95,6 +106,25 @@ class EachCommand(unittest.TestCase):
         begin = time.monotonic()
         self.assertEqual(run("check", "--" + "colr" * 50_000, "a.yml").status, 64)
         self.assertLess(time.monotonic() - begin, 10)
+
+    def test_without_a_file(self):
+        """Standard input is read, as by `promql`: a file for those that check files, and for `lint` a query."""
+        for words, given in zip(OVER_FILES, (FINE, FINE, "up == 0")):
+            self.assertEqual(run(*words, stdin=given.encode()).status, 0, words)
+        self.assertEqual(run("format", stdin=MESSY.encode()), (0, FINE, ""))
+        for words, given, rejected in zip(OVER_FILES, (WRONG, WRONG, "up =="), (4, 4, 1)):
+            ran = run(*words, stdin=given.encode())
+            self.assertEqual(ran.status, rejected, words)
+            self.assertRegex(ran.err + ran.out, "(?m)^<stdin>:[15]:[16]")
+
+    def test_without_a_file_at_a_terminal(self):
+        for words in OVER_FILES:
+            with mock.patch("sys.stdin", None):
+                self.assertEqual(without_input(*words), (64, f"promql-rules {words[0]}: no FILE is named\n"))
+            other, terminal = pty.openpty()
+            with open(terminal, encoding="utf-8") as given, mock.patch("sys.stdin", given):
+                self.assertEqual(without_input(*words), (64, f"promql-rules {words[0]}: no FILE is named\n"))
+            os.close(other)
 
     def test_end_of_options(self):
         for words in (("lsp",), ("serve",), ("completion", "bash")):

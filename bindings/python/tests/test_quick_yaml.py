@@ -11,7 +11,7 @@ from unittest import mock
 
 import test_rule_files
 from command_line import run
-from promql import quick_yaml, rule_files
+from promql import jobs, quick_yaml, rule_files
 from promql.documents import Status
 from promql.exact_yaml import ExactYaml
 from promql.files import FileError, Source
@@ -233,8 +233,25 @@ class Jobs(Folder):
         names = [*self.files(20), self.folder / "none.yml"]
         for command in (("check",), ("format",), ("format", "--check"), ("format", "--diff")):
             alone = run(*command, *names)
-            for jobs in (2, 3, 21, 200):
-                self.assertEqual(run(*command, "--jobs", jobs, *names), alone, (command, jobs))
+            for count in (2, 3, 21, 200):
+                self.assertEqual(run(*command, "--jobs", count, *names), alone, (command, count))
+
+    def test_as_many_as_files(self):
+        """Without an option so many processes share the files as there are hundreds of them, and one more, but `lint` is one."""
+        names, few = self.files(230), self.files(99)
+        with mock.patch.object(os, "sched_getaffinity", lambda process: {*range(self.processors)}), mock.patch.object(jobs, "_in_processes") as shared:
+            shared.side_effect = lambda targets, work, count: map(work, targets)
+            for self.processors, wanted in ((1, []), (2, [2]), (64, [3])):
+                for command in (("check",), ("format", "--check")):
+                    shared.reset_mock()
+                    run(*command, *names)
+                    self.assertEqual([call.args[2] for call in shared.call_args_list], wanted, command)
+            shared.reset_mock()
+            run("check", *few)
+            run("lint", *names)
+            shared.assert_not_called()
+        for command in (("check",), ("format", "--check")):
+            self.assertEqual(run(*command, *names), run(*command, "--jobs", "1", *names))
 
     def test_write(self):
         names = self.files(20)

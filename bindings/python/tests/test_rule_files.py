@@ -9,6 +9,7 @@ import stat
 import subprocess
 import sys
 import tempfile
+import time
 import unittest
 from pathlib import Path
 from unittest import mock
@@ -239,6 +240,46 @@ class Formatted(Folder):
         self.assertTrue(text.endswith("[5m]))"), text)
         diff = run("format", "--diff", path).out
         self.assertEqual(diff.count("\\ No newline at end of file\n"), 2)
+
+
+class Diff(Folder):
+    """`format --diff`."""
+
+    def differences(self, text, name="a.yml"):
+        """What the command prints for a file, and what `difflib` says of the file as it is formatted."""
+        path = self.file(text, name)
+        lines = [re.findall(r"[^\n]*\n|[^\n]+", it) for it in (text, run("format", path).out)]
+        wanted = "".join(it if it.endswith("\n") else f"{it}\n\\ No newline at end of file\n" for it in difflib.unified_diff(*lines, str(path), str(path)))
+        return run("format", "--diff", path).out, wanted if lines[1] else ""
+
+    def test_as_of_the_whole_file(self):
+        for folder in (FILES, ROOT / "examples/rules"):
+            for path in sorted(folder.rglob("*.yml")):
+                self.assertEqual(*self.differences(path.read_text(encoding="utf-8")))
+        generator = random.Random(7)
+        queries = ("a", "a+b", TWO_LINES, "sum(up)by(job)", "|\n      a +\n      # c\n      b", "|\n      sum(a)\n        by (b)\n\n")
+        for _ in range(150):
+            rules = [f"  - record: r{generator.randrange(9)}\n    expr: {generator.choice(queries)}".rstrip("\n") for _ in range(generator.randrange(1, 12))]
+            text = "groups:\n- name: a\n  rules:\n" + "\n".join(rules) + generator.choice(("", "\n", "\n\n"))
+            self.assertEqual(*self.differences(text), text)
+        line = "groups: [{name: a, rules: [{record: a, expr: a+b}, {record: b, expr: b}, {record: c, expr: b+c}]}]"
+        for text in (line, f"{line}\n", line.replace("rules: ", "rules:\n  ")):
+            self.assertEqual(*self.differences(text), text)
+
+    def test_many_lines(self):
+        """What took a time that grew with the square of the lines: equal ones, and others."""
+        for name in ("a", "a{}"):
+            text = "groups:\n- name: a\n  rules:\n" + "".join(f"  - record: {name.format(n)}\n    expr: sum(up)by(job)\n" for n in range(9_900))
+            begin = time.process_time()
+            ran = run("format", "--diff", self.file(text))
+            self.assertLess(time.process_time() - begin, 10)
+            self.assertEqual((ran.status, ran.out.count("\n-    expr: "), ran.out.count("\n+    expr: "), ran.out.count("@@ -")), (19, 9_900, 9_900, 1))
+        # a query whose lines are too many to be compared
+        lines = "".join(f"        # {n % 7}\n" for n in range(2_000))
+        path = self.file(file_of("", f"|\n      a+\n{lines}      b+c\n"))
+        found = re.findall(r"(?m)^([-+ ])(.*\n)", run("format", "--diff", path).out)[2:]
+        for text, signs in ((path.read_text(encoding="utf-8"), " -"), (run("format", path).out, " +")):
+            self.assertIn("".join(line for sign, line in found if sign in signs), text)
 
 
 class People(Folder):

@@ -123,7 +123,7 @@ def found_in(
     ignored = ignored_in(query) if ignored is None else ignored
     if selection.has(UNCOMPARED) and not ignored.has(UNCOMPARED) and not subject.compares_patterns:
         yield Finding(subject.whole, UNCOMPARED, _UNCOMPARED, Severity.INFO)
-    for rule in selection.rules():
+    for rule in selection.rules(subject.features):
         if not ignored.has(rule.code):
             for remark in rule.look(subject):
                 # (a text of the query may make each of many messages long)

@@ -11,7 +11,7 @@ from .table import rule
 from .trees import inner, is_comparison
 
 
-@rule("P501", "alert-without-condition", Severity.WARNING)
+@rule("P501", "alert-without-condition", Severity.WARNING, needs="alert")
 def alert_without_condition(subject: Subject) -> Iterator[Remark]:
     """An alert whose query has a value as long as its series are there."""
     if subject.context.alert and not _is_meant_to_fire(subject.tree) and not has_condition(subject.tree):
@@ -20,25 +20,20 @@ def alert_without_condition(subject: Subject) -> Iterator[Remark]:
             yield Remark(subject.whole, message)
 
 
-@rule("P502", "bool-in-alert", Severity.ERROR)
+@rule("P502", "bool-in-alert", Severity.ERROR, needs="alert")
 def bool_in_alert(subject: Subject) -> Iterator[Remark]:
     """An alert that fires for 0 as for 1."""
     node = inner(subject.tree)
     if not subject.context.alert or not is_comparison(node) or not node["bool"] or has_condition(node):
         return
-    place = subject.place(node)
-    span = place.bool if place and place.bool else subject.span(node)
-    yield Remark(span, "the alert fires always: with `bool` a comparison has the value 0 where it is false")
+    yield Remark(subject.place(node).bool or subject.span(node), "the alert fires always: with `bool` a comparison has the value 0 where it is false")
 
 
-@rule("P503", "lost-template-label", Severity.WARNING)
+@rule("P503", "lost-template-label", Severity.WARNING, needs="alert")
 def lost_template_label(subject: Subject) -> Iterator[Remark]:
     """A label that a template of the alert shows, and that its series cannot have."""
-    if not subject.context.alert or not subject.context.template_labels:
-        return
-    labels = subject.labels.of(subject.tree)
     for label in sorted(subject.context.template_labels):
-        if label != "__name__" and not labels.may_have(label):
+        if label != "__name__" and not subject.labels.of(subject.tree).may_have(label):
             message = f"a template has `$labels.{label}`, which is empty: no series of the query has this label"
             yield Remark(subject.whole, message)
 

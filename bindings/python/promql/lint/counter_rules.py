@@ -22,7 +22,7 @@ def _name_of_argument(subject: Subject, call: Tree) -> Optional[str]:
     return subject.metric(node) if node["type"] == "matrixSelector" else None
 
 
-@rule("P201", "rate-of-recorded", Severity.WARNING)
+@rule("P201", "rate-of-recorded", Severity.WARNING, needs="call")
 def rate_of_recorded(subject: Subject) -> Iterator[Remark]:
     """A rate of a metric whose name is that of a recording rule for something else than a counter."""
     for call in subject.calls(*_RATES):
@@ -32,7 +32,7 @@ def rate_of_recorded(subject: Subject) -> Iterator[Remark]:
             yield Remark(subject.span(call), f"`{function}` needs a counter, and `{name}` is recorded by a rule")
 
 
-@rule("P202", "rate-of-no-counter", Severity.INFO, is_default=False)
+@rule("P202", "rate-of-no-counter", Severity.INFO, is_default=False, needs="call")
 def rate_of_no_counter(subject: Subject) -> Iterator[Remark]:
     """A rate of a metric whose name has no ending of a counter."""
     for call in subject.calls(*_RATES):
@@ -43,7 +43,7 @@ def rate_of_no_counter(subject: Subject) -> Iterator[Remark]:
             yield Remark(subject.span(call), message)
 
 
-@rule("P203", "counter-as-gauge", Severity.WARNING)
+@rule("P203", "counter-as-gauge", Severity.WARNING, needs="call")
 def counter_as_gauge(subject: Subject) -> Iterator[Remark]:
     """A function for gauges over a counter, which falls to zero where its process starts anew."""
     for call in subject.calls(*_OF_GAUGES):
@@ -54,7 +54,7 @@ def counter_as_gauge(subject: Subject) -> Iterator[Remark]:
             yield Remark(subject.span(call), f"`{function}` is for gauges, and `{name}` is a counter: use {other}")
 
 
-@rule("P204", "rate-of-sum", Severity.ERROR)
+@rule("P204", "rate-of-sum", Severity.ERROR, needs="call")
 def rate_of_sum(subject: Subject) -> Iterator[Remark]:
     """A rate over a subquery of an aggregation, where resets of the single counters are lost."""
     for call in subject.calls(*_RATES):
@@ -66,7 +66,7 @@ def rate_of_sum(subject: Subject) -> Iterator[Remark]:
             yield Remark(subject.span(call), message)
 
 
-@rule("P205", "rate-of-rate", Severity.ERROR)
+@rule("P205", "rate-of-rate", Severity.ERROR, needs="call")
 def rate_of_rate(subject: Subject) -> Iterator[Remark]:
     """A rate over a subquery of what goes up and down."""
     for call in subject.calls(*_RATES):
@@ -77,7 +77,7 @@ def rate_of_rate(subject: Subject) -> Iterator[Remark]:
             yield Remark(subject.span(call), f"`{function}` needs a counter, and what `{other}` gives is none")
 
 
-@rule("P206", "irate-in-alert", Severity.WARNING)
+@rule("P206", "irate-in-alert", Severity.WARNING, needs="call")
 def irate_in_alert(subject: Subject) -> Iterator[Remark]:
     """`irate` in an alert, which looks at two samples and so forgets at once."""
     if subject.context.alert:
@@ -87,7 +87,7 @@ def irate_in_alert(subject: Subject) -> Iterator[Remark]:
             yield Remark(subject.head(call), f"`{function}` looks at the last two samples alone: use `{other}` in an alert")
 
 
-@rule("P207", "short-range", Severity.WARNING)
+@rule("P207", "short-range", Severity.WARNING, needs="matrixSelector")
 def short_range(subject: Subject) -> Iterator[Remark]:
     """A range in which there are too few samples, or between which samples are never looked at."""
     for node in subject.of_type("matrixSelector"):
@@ -122,7 +122,7 @@ def _is_subquery(node: Tree) -> bool:
     return bool(node["type"] == "subquery")
 
 
-@rule("P208", "quantile-of-counter", Severity.WARNING)
+@rule("P208", "quantile-of-counter", Severity.WARNING, needs="call")
 def quantile_of_counter(subject: Subject) -> Iterator[Remark]:
     """A quantile of buckets as they are, which count all since the start of their process."""
     for call in subject.calls("histogram_quantile"):

@@ -4,7 +4,6 @@ from __future__ import annotations
 
 import json
 import re
-from dataclasses import replace
 from difflib import SequenceMatcher
 from itertools import accumulate
 from typing import Any, Dict, FrozenSet, Iterator, List, NamedTuple, Optional, Sequence, Set, Tuple
@@ -102,6 +101,9 @@ class FileLinter:
             for rule in rules_of(text.document, budget, self._shared).places if isinstance(text.document, RuleFile) else ():
                 placed = RulePlace(text.at(rule.start), text.at(rule.end), text.at(rule.query_end), rule.context)
                 self._rules.setdefault(placed.query_end, []).append(placed)
+        if not budget.takes(0):
+            message = f"not looked for: all rules in a circle, of which the queries have more than {budget.most:,} tokens (--max-lint-tokens)"
+            self.left.append(Fault(0, 0, message))
         message = f"its aliases are in groups of more than {MOST_INTERVALS} intervals: the rule is looked at with {MOST_INTERVALS} of these"
         self.left += [Fault(at, at, message) for at in found.cut]
 
@@ -282,17 +284,18 @@ class FileLinter:
         return None
 
     def _change(self, query: Query) -> Optional[_Change]:
-        if query.skipped or query.kept or not self._document.checker.admits(query.text):
+        if query.skipped or query.kept or not self._document.checker.admits(query.text) or not self._budget.takes(0):
             return None
-        contexts = self._contexts(query)
-        if not self._has_fix(query, contexts):
-            return None
+        contexts, is_written = self._contexts(query), self._is_written(query)
 
         def look(text: str, tree: Tree) -> List[Finding]:
-            take(text, self._budget)
             # (what a fix changes is in all rules that have the query)
             context, _ = contexts[0]
-            found = found_in(text, tree, self._selection, context, self._is_written(query))
+            for it in (text, *context.template_queries):
+                take(it, self._budget)
+            found = list(found_in(text, tree, self._selection, context, is_written))
+            if is_written is always:
+                self._looks.keep(text, self._selection, context, found)
             return [it for it in found if not any(ignored.has(it.code) for _, ignored in contexts)]
 
         try:
@@ -301,14 +304,6 @@ class FileLinter:
             # (as is told by `findings`)
             return None
         return (query, text) if text != query.text else None
-
-    def _has_fix(self, query: Query, contexts: Sequence[Tuple[RuleContext, Ignored]]) -> bool:
-        """Whether a finding of a query has a fix, so that there is one to make."""
-        try:
-            found = self._look(query, contexts[0][0])
-        except (RecursionError, ValueError, BoundError):
-            return False
-        return any(finding.fix for finding in found)
 
     def _edits(self, query: Query, text: str, plainly: bool) -> List[Edit]:
         """What writes another text in the place of a query: edits of the parts that differ, or one of the whole. There is none of a whole
@@ -320,7 +315,7 @@ class FileLinter:
 
     def _has(self, text: str, queries: Sequence[str]) -> bool:
         """Whether a text of the file is read as these queries, and all else in it as before."""
-        source = replace(self._document.source, text=text)
+        source = self._document.source._replace(text=text)
         try:
             self.fixed_document = _read_again(self._document, source)
             read = [query.text for query in self.fixed_document.queries]

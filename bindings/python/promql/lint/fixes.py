@@ -154,8 +154,5 @@ class _Group:
 
     def _meets(self, edit: TextEdit) -> bool:
         at = bisect_left(self._edits, edit)
-        return any(_meet(edit, other) for other in self._edits[max(at - 1, 0) : at + 1])
-
-
-def _meet(one: TextEdit, other: TextEdit) -> bool:
-    return one.start < other.end and other.start < one.end or one.start == other.start
+        others = self._edits[max(at - 1, 0) : at + 1]
+        return any(edit.start < it.end and it.start < edit.end or edit.start == it.start for it in others)

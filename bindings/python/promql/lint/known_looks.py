@@ -51,24 +51,32 @@ class KnownLooks:
             # (what stands for a variable may be another variable elsewhere)
             take(query, budget)
             return look_at(query, selection, context, is_written, has_fixes, explains)
+        key = self._key(query, selection, context, has_fixes)
+        if key not in self._known:
+            for text in (query, *context.template_queries):
+                take(text, budget)
+            found = look_at(query, selection, context, is_written, has_fixes, explains)
+            self._keep(key, [it._replace(fix=it.fix and it.fix._replace(changes=())) for it in found])
+        return self._known[key]
+
+    def keep(self, query: str, selection: Selection, context: RuleContext, found: List[Finding]) -> None:
+        """Keeps what was found in a query without variables, where no finding has a fix that would be checked."""
+        if not any(finding.fix for finding in found):
+            self._keep(self._key(query, selection, context, True), sorted(found, key=lambda it: it[:3]))
+
+    def _key(self, query: str, selection: Selection, context: RuleContext, has_fixes: bool) -> Tuple[Any, ...]:
         if context.recorded is not self._recorded:
             if context.recorded != self._recorded:
                 self._known, self._kept = {}, 0
             self._recorded = context.recorded
-        key = (query, selection, has_fixes, context.records.key_of(query), *context.key)
-        if key not in self._known:
-            for text in (query, *context.template_queries):
-                take(text, budget)
-            found = [_without_changes(it) for it in look_at(query, selection, context, is_written, has_fixes, explains)]
-            self._kept += len(query) + _FINDING * (1 + len(found))
-            if self._kept > _MOST_KEPT:
-                self._known, self._kept = {}, len(query) + _FINDING * (1 + len(found))
-            self._known[key] = found
-        return self._known[key]
+        return query, selection, has_fixes, context.records.key_of(query), *context.key
 
-
-def _without_changes(finding: Finding) -> Finding:
-    return finding._replace(fix=finding.fix._replace(changes=())) if finding.fix else finding
+    def _keep(self, key: Tuple[Any, ...], found: List[Finding]) -> None:
+        size = len(key[0]) + _FINDING * (1 + len(found))
+        if self._kept + size > _MOST_KEPT:
+            self._known, self._kept = {}, 0
+        self._kept += size
+        self._known[key] = found
 
 
 LOOKS = KnownLooks()

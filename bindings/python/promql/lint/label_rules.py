@@ -13,7 +13,7 @@ from .table import rule
 from .trees import NAME, fills, inner, matching_of
 
 
-@rule("P401", "lost-label", Severity.WARNING)
+@rule("P401", "lost-label", Severity.WARNING, needs="aggregation")
 def lost_label(subject: Subject) -> Iterator[Remark]:
     """A label after `by` that the series of the aggregation do not have."""
     for node in subject.of_type("aggregation"):
@@ -26,7 +26,7 @@ def lost_label(subject: Subject) -> Iterator[Remark]:
                 yield Remark(span, f"no series has the label `{label}` here: what is below does not keep it")
 
 
-@rule("P402", "unmatched-label", Severity.WARNING)
+@rule("P402", "unmatched-label", Severity.WARNING, needs="binaryExpr")
 def unmatched_label(subject: Subject) -> Iterator[Remark]:
     """A label after `on` that one side cannot have, or one after `ignoring` that neither side can have."""
     for node, left, right in subject.matched:
@@ -46,7 +46,7 @@ def _why_unmatched(label: str, is_on: bool, left: Labels, right: Labels) -> str:
     return f"`ignoring` has the label `{label}`, which no side has" if not is_on and len(lacking) == 2 else ""
 
 
-@rule("P403", "grouped-label", Severity.WARNING)
+@rule("P403", "grouped-label", Severity.WARNING, needs="binaryExpr")
 def grouped_label(subject: Subject) -> Iterator[Remark]:
     """A label after `group_left` or `group_right` that the one side cannot have."""
     for node, left, right in subject.matched:
@@ -62,7 +62,7 @@ def grouped_label(subject: Subject) -> Iterator[Remark]:
                 yield Remark(span, f"`{word}` takes the label `{label}` from the {side} side, which has none")
 
 
-@rule("P404", "never-matched", Severity.ERROR)
+@rule("P404", "never-matched", Severity.ERROR, needs="binaryExpr")
 def never_matched(subject: Subject) -> Iterator[Remark]:
     """Sides of an operator of which one surely has a label that the other cannot have, or of which both have it with other values."""
     for node, left, right in subject.matched:
@@ -74,7 +74,7 @@ def never_matched(subject: Subject) -> Iterator[Remark]:
 def _why_never(subject: Subject, node: Tree, left: Labels, right: Labels) -> str:
     """Why no series of both sides match, or nothing."""
     lacking = _lacking(subject, node, (left, left.sure), (right, right.sure))
-    if lacking or node["op"] == "or" or fills(node):
+    if lacking or not left.values or not right.values or node["op"] == "or" or fills(node):
         return lacking
     here, there = dict(sorted(left.values)), dict(sorted(right.values))
     differing = frozenset(label for label in here.keys() & there.keys() if here[label] != there[label])
@@ -87,7 +87,7 @@ def _why_never(subject: Subject, node: Tree, left: Labels, right: Labels) -> str
 
 def _lacking(subject: Subject, node: Tree, left: Tuple[Labels, FrozenSet[str]], right: Tuple[Labels, FrozenSet[str]]) -> str:
     """That one side has a label, of some that are to be looked at, which the other side cannot have; or nothing."""
-    if node["op"] == "or" or fills(node):
+    if not left[1] and not right[1] or node["op"] == "or" or fills(node):
         return ""
     for side, (_, has), (other, _) in (("left", left, right), ("right", right, left)):
         lacking = sorted(_compared(node, other.lacked(has)))
@@ -96,7 +96,7 @@ def _lacking(subject: Subject, node: Tree, left: Tuple[Labels, FrozenSet[str]], 
     return ""
 
 
-@rule("P405", "label-by-order", Severity.WARNING)
+@rule("P405", "label-by-order", Severity.WARNING, needs="call")
 def label_by_order(subject: Subject) -> Iterator[Remark]:
     """`absent` of a selector with two matchers of a label, whose order tells whether the result has this label."""
     for node in subject.calls("absent", "absent_over_time"):
@@ -130,7 +130,7 @@ def matcher_without_label(subject: Subject) -> Iterator[Remark]:
                 yield Remark(place.whole if place else subject.span(node), message)
 
 
-@rule("P407", "one-sided-label", Severity.ERROR)
+@rule("P407", "one-sided-label", Severity.ERROR, needs="binaryExpr")
 def one_sided_label(subject: Subject) -> Iterator[Remark]:
     """Sides of an operator of which one is aggregated by a label that the other cannot have."""
     for node, left, right in subject.matched:

@@ -82,7 +82,7 @@ def _before_blanks(text: str, at: int, least: int) -> int:
     return at
 
 
-@rule("P101", "pattern-of-go", Severity.ERROR)
+@rule("P101", "pattern-of-go", Severity.ERROR, needs="~")
 def pattern_of_go(subject: Subject) -> Iterator[Remark]:
     """Prometheus rejects a pattern, which is read here."""
     for node, matcher in _with_pattern(subject):
@@ -91,7 +91,7 @@ def pattern_of_go(subject: Subject) -> Iterator[Remark]:
             yield Remark(_span(subject, node, matcher), f"Prometheus rejects the pattern: {reason}")
 
 
-@rule("P102", "pattern-read-otherwise", Severity.WARNING)
+@rule("P102", "pattern-read-otherwise", Severity.WARNING, needs="~")
 def pattern_read_otherwise(subject: Subject) -> Iterator[Remark]:
     """Prometheus reads a pattern as another one."""
     for node, matcher in _with_pattern(subject):
@@ -100,7 +100,7 @@ def pattern_read_otherwise(subject: Subject) -> Iterator[Remark]:
             yield Remark(_span(subject, node, matcher), f"Prometheus reads the pattern otherwise: {why}")
 
 
-@rule("P103", "pattern-of-one-text", Severity.WARNING)
+@rule("P103", "pattern-of-one-text", Severity.WARNING, needs="~")
 def pattern_of_one_text(subject: Subject) -> Iterator[Remark]:
     """A pattern that matches one text is a text."""
     for node, matcher in _with_pattern(subject):
@@ -113,7 +113,7 @@ def pattern_of_one_text(subject: Subject) -> Iterator[Remark]:
         yield Remark(_span(subject, node, matcher), f"the pattern matches one text alone: write `{wanted}`", fix)
 
 
-@rule("P104", "needless-anchor", Severity.WARNING)
+@rule("P104", "needless-anchor", Severity.WARNING, needs="~")
 def needless_anchor(subject: Subject) -> Iterator[Remark]:
     """`^` and `$` at the ends of a pattern mean nothing."""
     for node, matcher in _with_pattern(subject):
@@ -125,7 +125,7 @@ def needless_anchor(subject: Subject) -> Iterator[Remark]:
         yield Remark(_span(subject, node, matcher), message, fix)
 
 
-@rule("P105", "pattern-of-a-part", Severity.INFO, is_default=False)
+@rule("P105", "pattern-of-a-part", Severity.INFO, is_default=False, needs="~")
 def pattern_of_a_part(subject: Subject) -> Iterator[Remark]:
     """A pattern that begins and ends with `.*`."""
     for node, matcher in _with_pattern(subject):
@@ -137,7 +137,7 @@ def pattern_of_a_part(subject: Subject) -> Iterator[Remark]:
             yield Remark(_span(subject, node, matcher), message)
 
 
-@rule("P106", "matches-all", Severity.WARNING)
+@rule("P106", "matches-all", Severity.WARNING, needs="~")
 def matches_all(subject: Subject) -> Iterator[Remark]:
     """A matcher that every value matches, also none."""
     for node, matcher in _with_pattern(subject):
@@ -147,7 +147,7 @@ def matches_all(subject: Subject) -> Iterator[Remark]:
             yield Remark(_span(subject, node, matcher), message)
 
 
-@rule("P107", "matches-none", Severity.ERROR)
+@rule("P107", "matches-none", Severity.ERROR, needs="~")
 def matches_none(subject: Subject) -> Iterator[Remark]:
     """A matcher that no value matches."""
     for node, matcher in _with_pattern(subject):
@@ -175,7 +175,7 @@ def _by_label(subject: Subject) -> Iterator[Tuple[Tree, SeenMatcher, List[SeenMa
                 yield node, equal[0], [it for it in matchers if it is not equal[0]]
 
 
-@rule("P108", "matchers-exclude-each-other", Severity.ERROR)
+@rule("P108", "matchers-exclude-each-other", Severity.ERROR, needs="{")
 def matchers_exclude_each_other(subject: Subject) -> Iterator[Remark]:
     """Two matchers of a selector that no series matches both."""
     for node, equal, others in _by_label(subject):
@@ -185,7 +185,7 @@ def matchers_exclude_each_other(subject: Subject) -> Iterator[Remark]:
                 yield Remark(_span(subject, node, other), message)
 
 
-@rule("P109", "needless-matcher", Severity.WARNING)
+@rule("P109", "needless-matcher", Severity.WARNING, needs="{")
 def needless_matcher(subject: Subject) -> Iterator[Remark]:
     """A matcher that every series matches which another one of the selector lets through."""
     for node, equal, others in _by_label(subject):

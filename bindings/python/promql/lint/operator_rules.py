@@ -29,7 +29,7 @@ def _comparisons_with_number(subject: Subject) -> Iterator[Tuple[Tree, Tree, str
             yield node, inner(node["rhs"]), TURNED[node["op"]], left
 
 
-@rule("P301", "constant-comparison", Severity.WARNING)
+@rule("P301", "constant-comparison", Severity.WARNING, needs="binaryExpr")
 def constant_comparison(subject: Subject) -> Iterator[Remark]:
     """A comparison whose sides are constants."""
     comparisons = list(filter(is_comparison, subject.nodes))
@@ -55,7 +55,7 @@ def _keeps_constants(node: Tree) -> bool:
     return kind in ("parenExpr", "unaryExpr", "binaryExpr") or kind == "call" and node["func"]["name"] in ("vector", "pi")
 
 
-@rule("P302", "equal-to-fraction", Severity.WARNING)
+@rule("P302", "equal-to-fraction", Severity.WARNING, needs="binaryExpr")
 def equal_to_fraction(subject: Subject) -> Iterator[Remark]:
     """`==` or `!=` with a number that is not whole."""
     for node, _, operator, number in _comparisons_with_number(subject):
@@ -64,7 +64,7 @@ def equal_to_fraction(subject: Subject) -> Iterator[Remark]:
             yield Remark(subject.span(node), message)
 
 
-@rule("P303", "never-true", Severity.ERROR)
+@rule("P303", "never-true", Severity.ERROR, needs="binaryExpr")
 def never_true(subject: Subject) -> Iterator[Remark]:
     """A comparison with a number that a count never has: where there is nothing to count, it has no value, and not 0."""
     for node, side, operator, number in _comparisons_with_number(subject):
@@ -100,7 +100,7 @@ def quantile_out_of_range(subject: Subject) -> Iterator[Remark]:
             yield Remark(subject.span(parameter), message)
 
 
-@rule("P305", "bool-kept-as-filter", Severity.WARNING)
+@rule("P305", "bool-kept-as-filter", Severity.WARNING, needs="binaryExpr")
 def bool_kept_as_filter(subject: Subject) -> Iterator[Remark]:
     """`bool` of a comparison whose 0 and 1 are compared again as if it filtered, by `and` or `unless`."""
     for node in subject.of_type("binaryExpr"):
@@ -113,7 +113,7 @@ def bool_kept_as_filter(subject: Subject) -> Iterator[Remark]:
             yield Remark(span, message)
 
 
-@rule("P306", "no-bucket-label", Severity.ERROR)
+@rule("P306", "no-bucket-label", Severity.ERROR, needs="call")
 def no_bucket_label(subject: Subject) -> Iterator[Remark]:
     """A quantile of buckets without the label `le`."""
     calls = list(subject.calls("histogram_quantile"))
@@ -138,7 +138,7 @@ def _of_buckets(subject: Subject) -> Set[int]:
     return {node for node, is_of_buckets in found.items() if is_of_buckets}
 
 
-@rule("P307", "experimental-function", Severity.INFO, is_default=False)
+@rule("P307", "experimental-function", Severity.INFO, is_default=False, needs="call")
 def experimental_function(subject: Subject) -> Iterator[Remark]:
     """A function that Prometheus has only where it is asked for."""
     for node in subject.of_type("call"):
@@ -148,7 +148,7 @@ def experimental_function(subject: Subject) -> Iterator[Remark]:
             yield Remark(subject.head(node), message)
 
 
-@rule("P308", "contradiction", Severity.ERROR)
+@rule("P308", "contradiction", Severity.ERROR, needs="binaryExpr")
 def contradiction(subject: Subject) -> Iterator[Remark]:
     """A comparison that no value passes, or conditions of one expression of which no value passes both."""
     for node, side, operator, number in _comparisons_with_number(subject):
@@ -175,7 +175,7 @@ def _why_of_same(node: Tree) -> str:
     return ""
 
 
-@rule("P309", "always-true", Severity.WARNING)
+@rule("P309", "always-true", Severity.WARNING, needs="binaryExpr")
 def always_true(subject: Subject) -> Iterator[Remark]:
     """A comparison that every value passes."""
     for node, side, operator, number in _comparisons_with_number(subject):

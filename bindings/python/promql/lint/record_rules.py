@@ -12,9 +12,9 @@ from .table import rule
 @rule("P701", "recorded-twice", Severity.ERROR)
 def recorded_twice(subject: Subject) -> Iterator[Remark]:
     """A rule that records a series that another rule of the file records, too."""
-    first, labels = subject.context.same_query, subject.labels.of(subject.tree)
+    first = subject.context.same_query
     if first is not None:
-        is_one_series = labels.only == frozenset() == subject.context.records.labels_in(first).only
+        is_one_series = subject.labels.of(subject.tree).only == frozenset() == subject.context.records.labels_in(first).only
         if is_one_series or first.split() == subject.text.split():
             yield Remark(subject.whole, f"another rule of {subject.context.records.where} records `{subject.context.record}` with the same labels")
 
@@ -31,7 +31,7 @@ def recorded_in_circle(subject: Subject) -> Iterator[Remark]:
             yield Remark(subject.span(node), message)
 
 
-@rule("P703", "not-recorded", Severity.WARNING)
+@rule("P703", "not-recorded", Severity.WARNING, needs="alert")
 def not_recorded(subject: Subject) -> Iterator[Remark]:
     """An alert on a metric that no rule of the files records, while its name says so."""
     for node in subject.selectors if subject.context.alert else ():

@@ -3,10 +3,12 @@
 from __future__ import annotations
 
 import re
+from contextlib import suppress
 from typing import Callable, Dict, FrozenSet, Iterable, List, NamedTuple, Optional, Sequence, Set, Tuple
 
 import promql
 
+from ..files import BoundError
 from ..rule_checks import mappings_in
 from ..token_texts import tokens_of
 from ..yaml_mappings import Mappings
@@ -52,8 +54,13 @@ class Records:
         self._known: Dict[str, Labels] = {}
 
     def _named_by(self, name: str) -> Set[str]:
-        tokens = (token for rule in self._rules[name] for token in tokens_of(rule.query))
-        return {token.text for token in tokens if token.kind not in ("comment", "string")}
+        """The words of the queries of a metric, as far as they may be read."""
+        found: Set[str] = set()
+        with suppress(BoundError):
+            for query in dict.fromkeys(rule.query for rule in self._rules[name]):
+                self._take(query)
+                found.update(token.text for token in tokens_of(query) if token.kind not in ("comment", "string"))
+        return found
 
     def key_of(self, query: str) -> Optional[int]:
         """What tells these metrics from those of another file, where a query may read one of them."""

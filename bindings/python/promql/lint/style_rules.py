@@ -15,7 +15,7 @@ _WORD = re.compile(r"[\w:]")
 _PRIMARY = ("parenExpr", "numberLiteral", "stringLiteral", "vectorSelector", "matrixSelector", "call", "aggregation", "subquery")
 
 
-@rule("P601", "needless-parentheses", Severity.INFO)
+@rule("P601", "needless-parentheses", Severity.INFO, needs="parenExpr")
 def needless_parentheses(subject: Subject) -> Iterator[Remark]:
     """Parentheses around what is one thing anyway: a name, a call, all of an argument or of the query."""
     for node in subject.of_type("parenExpr"):
@@ -62,7 +62,7 @@ def _why_needless(subject: Subject, node: Tree) -> Optional[str]:
     return f"one {kind_of(below)}" if subject.is_written(subject.text[head.start : head.end]) else None
 
 
-@rule("P602", "empty-braces", Severity.INFO)
+@rule("P602", "empty-braces", Severity.INFO, needs="{")
 def empty_braces(subject: Subject) -> Iterator[Remark]:
     """Braces without a matcher."""
     for node in subject.selectors if "{" in subject.text else ():

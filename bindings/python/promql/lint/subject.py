@@ -125,6 +125,12 @@ class Subject:
             found.setdefault(node["type"], []).append(node)
         return found
 
+    @property
+    def features(self) -> FrozenSet[str]:
+        """What rules may need: the types of nodes, `alert` in an alert, and signs of matchers."""
+        signs = (sign for sign in "{~" if sign in self.text)
+        return frozenset((*self._by_type, *signs, *(["alert"] if self.context.alert else [])))
+
     def of_type(self, type: str) -> Sequence[Tree]:
         return self._by_type.get(type, ())
 
@@ -171,7 +177,7 @@ class Subject:
     def compares_patterns(self) -> bool:
         """Whether patterns are held against the values of other matchers, which they are not where these are large together."""
         steps = 0
-        for node in self.selectors:
+        for node in self.selectors if "~" in self.text else ():
             for group in self.matcher_groups(node):
                 lengths: Dict[str, int] = {}
                 for it in group:

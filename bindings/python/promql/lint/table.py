@@ -3,7 +3,7 @@
 from __future__ import annotations
 
 from functools import lru_cache
-from typing import Callable, Dict, Iterable, Iterator, List, NamedTuple, Tuple
+from typing import Callable, Dict, FrozenSet, Iterable, Iterator, List, NamedTuple, Tuple
 
 from .findings import Remark, Severity
 from .subject import Subject
@@ -20,6 +20,8 @@ class Rule(NamedTuple):
     look: Look
     # Whether it is asked for where nothing is said.
     is_default: bool = True
+    # What a query has to have for it (`Subject.features`); nothing where it looks at all queries.
+    needs: str = ""
 
 
 RULES: Dict[str, Rule] = {}
@@ -46,12 +48,12 @@ NAMES.update({code: name for code, (name, _) in LIVE.items()})
 _HELPS.update({code: text for code, (_, text) in LIVE.items()})
 
 
-def rule(code: str, name: str, severity: Severity, is_default: bool = True) -> Callable[[Look], Look]:
+def rule(code: str, name: str, severity: Severity, is_default: bool = True, needs: str = "") -> Callable[[Look], Look]:
     """Enters a function into the table as the rule of this code."""
 
     def enter(look: Look) -> Look:
         assert code not in RULES, code
-        RULES[code] = Rule(code, name, severity, look, is_default)
+        RULES[code] = Rule(code, name, severity, look, is_default, needs)
         return look
 
     return enter
@@ -88,13 +90,15 @@ class Selection(NamedTuple):
             return any(is_meant(code, word) for word in self.selected)
         return code in NAMES or RULES[code].is_default
 
-    def rules(self) -> Tuple[Rule, ...]:
-        return _selected(self)
+    def rules(self, features: FrozenSet[str]) -> Tuple[Rule, ...]:
+        """The rules that may find something in a query that has these."""
+        return _selected(self, features)
 
 
-@lru_cache(maxsize=16)
-def _selected(selection: Selection) -> Tuple[Rule, ...]:
-    return tuple(RULES[code] for code in sorted(RULES) if selection.has(code))
+@lru_cache(maxsize=1024)
+def _selected(selection: Selection, features: FrozenSet[str]) -> Tuple[Rule, ...]:
+    rules = (RULES[code] for code in sorted(RULES) if selection.has(code))
+    return tuple(it for it in rules if not it.needs or it.needs in features)
 
 
 def is_meant(code: str, word: str) -> bool:

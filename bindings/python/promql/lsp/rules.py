@@ -112,18 +112,19 @@ file_of = lru_cache(maxsize=1)(read_file)
 
 def rules_of(file: RuleFile) -> List[Rule]:
     text, budget = file.source.text, Budget(_MOST_TOKENS)
-    queries = [query for query in _admitted(file) if budget.takes(0) and budget.takes(len(tokens_of(query.text)))]
-    queries.sort(key=lambda query: query.offsets[0])
+    admitted = (query for query in _admitted(file) if budget.takes(0) and budget.takes(len(tokens_of(query.text))))
+    # (what is in a query is read while its tokens are known)
+    queries = sorted([PlacedQuery(query.text, query.offsets) for query in admitted], key=lambda query: query.start)
     found: List[Rule] = []
     used = 0
     for node in sorted(file.rules(), key=lambda rule: rule.start):
         end, is_whole = _end(node)
-        while used < len(queries) and queries[used].offsets[0] < node.start:
+        while used < len(queries) and queries[used].start < node.start:
             found.append(_lone(queries[used]))
             used += 1
         own: List[PlacedQuery] = []
-        while used < len(queries) and queries[used].offsets[0] < end:
-            own.append(PlacedQuery(queries[used].text, queries[used].offsets))
+        while used < len(queries) and queries[used].start < end:
+            own.append(queries[used])
             used += 1
         found.append(_rule(file, node, end, is_whole, own, text))
     found += map(_lone, queries[used:])
@@ -145,9 +146,8 @@ def rules_at(file: RuleFile, offsets: Iterable[int]) -> Iterator[Optional[Rule]]
         yield _rule(file, nodes[number], end, is_whole, [], file.source.text) if offset < end else None
 
 
-def _lone(query: Query) -> Rule:
-    placed = PlacedQuery(query.text, query.offsets)
-    return Rule(placed.start, placed.end, False, "", 0, 0, "", [placed])
+def _lone(query: PlacedQuery) -> Rule:
+    return Rule(query.start, query.end, False, "", 0, 0, "", [query])
 
 
 def _end(rule: Node) -> Tuple[int, bool]:
