@@ -116,6 +116,13 @@ def with_settings(arguments: argparse.Namespace, target: Target) -> Tuple[argpar
     return merged, settings
 
 
+def settings_of(name: str) -> TeamSettings:
+    """The settings for a file, which are read anew."""
+    _found.cache_clear()
+    _read.cache_clear()
+    return _found(_folder_of(name))
+
+
 def _folder_of(name: str) -> str:
     return os.path.dirname(os.path.abspath(name))
 

@@ -55,7 +55,7 @@ def location(document: Document, start: int, end: int) -> Dict[str, Any]:
 
 
 def rename(documents: List[Document], name: str, new: str) -> Dict[str, Any]:
-    """The edits of each document that give a metric another name. Raises where one of them would do anything else."""
+    """The edits of each document that give a metric another name, by its URI. Raises where one of them would do anything else."""
     if not _is_metric(new):
         raise ProtocolError(INVALID_PARAMS, f"not a name of a metric: {new!r}")
     changes: Dict[str, Any] = {}
@@ -70,9 +70,7 @@ def rename(documents: List[Document], name: str, new: str) -> Dict[str, Any]:
         _look_at(document, name, new)
         edits = [{"range": document.lines.range(start, end), "newText": new} for start, end in sorted({*places})]
         changes[document.uri] = edits
-    if not changes:
-        raise ProtocolError(REQUEST_FAILED, "there is no metric of this name")
-    return {"changes": changes}
+    return changes
 
 
 def _is_metric(name: str) -> bool:
@@ -108,17 +106,14 @@ def _renamed(query: PlacedQuery, name: str, new: str) -> str:
 
 def _look_at_query(query: PlacedQuery, name: str, new: str) -> None:
     try:
-        before = promql.collect(query.text)["metrics"]
+        promql.check(query.text)
     except ValueError:
         # (a query that is rejected has nothing to lose but its places)
         return
     text = _renamed(query, name, new)
     try:
-        after = promql.collect(text)["metrics"]
+        is_right = promql.canonical(text) == promql.canonical(promql.rename_metric(query.text, name, new))
     except ValueError as error:
         raise ProtocolError(REQUEST_FAILED, f"a query would be rejected with the name {new!r}: {error}") from error
-    # (a name that the query has in a form which is not renamed stays)
-    if set(after) not in ({new if it == name else it for it in before}, {*before, new}):
-        raise ProtocolError(REQUEST_FAILED, f"a query would be another one with the name {new!r}")
-    if len(names_of(text).metrics) != len(query.names.metrics):
+    if not is_right or len(names_of(text).metrics) != len(query.names.metrics):
         raise ProtocolError(REQUEST_FAILED, f"a query would be another one with the name {new!r}")

@@ -1,0 +1,68 @@
+"""The query that is being written where a file is not read as it is, or has none yet: what is after `expr` on its line, or a block below."""
+
+from __future__ import annotations
+
+import re
+from typing import Optional
+
+import promql
+
+from ..dashboards import may_have_queries
+from ..documents import GROUPS
+from ..queries import PlacedText
+from .rules import PlacedQuery
+
+_KEY = re.compile(r"(?:^|[-{,])[ \t]*([\"']?)expr\1[ \t]*:[ \t]*")
+_HEADER = re.compile(r"(?:[|>][-+1-9]*)?[ \t]*(?:#.*)?$")
+# What a text in these quotes is made of, up to its end where it has one.
+_PIECES = {'"': re.compile(r'\\?[^"\r\n]|\\"'), "'": re.compile(r"[^'\r\n]|''"), "": re.compile(r"[^\r\n]")}
+_LINE = re.compile(r"[^\r\n]*")
+_MEANINGS = {"\\n": "\n", "\\t": "\t", "''": "'"}
+
+
+def query_at(text: str, offset: int, is_json: bool, is_read: bool) -> Optional[PlacedQuery]:
+    """The query around a place, or an empty one that may be written there."""
+    begin = max(text.rfind("\n", 0, offset), text.rfind("\r", 0, offset)) + 1
+    line = _line(text, begin)
+    value = _value(line, offset - begin)
+    if value is None and line.strip() or not (may_have_queries(text) if is_json else GROUPS.search(text)):
+        return None
+    if value is None:
+        return PlacedQuery("", range(offset, offset + 1)) if _is_below(text, begin, offset) else None
+    # (of a value that was read it is known whether it is a query)
+    is_other = line[value:].strip() and (is_read or _HEADER.match(line, value))
+    return None if is_other else _on_line(text, begin + value)
+
+
+def _value(line: str, before: int) -> Optional[int]:
+    """Where the value of an `expr` begins on a line, up to this place."""
+    found = [it.end() for it in _KEY.finditer(line, 0, before)]
+    return found[-1] if found else None
+
+
+def _line(text: str, begin: int) -> str:
+    found = _LINE.match(text, begin)
+    return found[0] if found else ""
+
+
+def _on_line(text: str, start: int) -> PlacedQuery:
+    """What is written from there on."""
+    quote = text[start : start + 1] if text[start : start + 1] in ("'", '"') else ""
+    read, at = PlacedText(), start + len(quote)
+    # (what is longer than a query may be is not read as one)
+    while len(read.offsets) <= promql.limits()["max_len"]:
+        piece = _PIECES[quote].match(text, at)
+        if not piece:
+            break
+        read.put_all(_MEANINGS.get(piece[0], piece[0][-1]), at)
+        at = piece.end()
+    query = read.text if quote else read.text.rstrip()
+    return PlacedQuery(query, [*read.offsets, at][: len(query) + 1])
+
+
+def _is_below(text: str, begin: int, offset: int) -> bool:
+    """Whether a place on an empty line is in the block of an `expr` that has no text yet."""
+    above = text[:begin].rstrip()
+    line = above[max(above.rfind("\n"), above.rfind("\r")) + 1 :]
+    value = _value(line, len(line))
+    return value is not None and bool(_HEADER.match(line, value)) and offset - begin > len(line) - len(line.lstrip())
