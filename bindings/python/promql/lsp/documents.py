@@ -20,6 +20,7 @@ from .unread import query_at
 
 # A document is not looked at where it is larger.
 MOST_CHARACTERS = 8 * 1024 * 1024
+TOO_LARGE = Problem(0, 0, ERROR, "larger than what the language server looks at")
 _YAML, _JSON = re.compile(r"\.(?:ya?ml|rules?)$", re.I), re.compile(r"\.json$", re.I)
 _BLANK_REST = re.compile(r"[ \t]*")
 

@@ -8,7 +8,7 @@ from typing import Any, Dict, NamedTuple, Tuple
 
 from ..files import FileError, read_source
 from ..targets import targets_of
-from .documents import Document
+from .documents import TOO_LARGE, Document
 from .layout import LeftError
 from .messages import ProtocolError
 from .navigation import rename
@@ -36,9 +36,9 @@ def changes_in_folders(renaming: Renaming) -> Dict[str, Any]:
         opened.add(path)
         try:
             document = Document(Path(path).as_uri(), "", 0, read_source(path).text)
-            rules, problems = problems_of(document.text, is_json=document.is_json)
-            if document.is_large or rules is None and problems:
-                raise LeftError(f"{path}: {problems[0].message if problems else 'larger than what the language server looks at'}")
+            rules, problems = (None, [TOO_LARGE]) if document.is_large else problems_of(document.text, is_json=document.is_json)
+            if rules is None and problems:
+                raise LeftError(f"{path}: {problems[0].message}")
             document.settle(rules or [])
             changes.update(rename([document], renaming.name, renaming.new))
         except (ProtocolError, FileError) as error:

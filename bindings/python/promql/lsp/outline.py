@@ -46,7 +46,8 @@ def _groups(file: RuleFile) -> Iterator[Group]:
             if group.kind == "mapping" and id(group) not in seen:
                 seen.add(id(group))
                 name = file.mappings.value(group, "name")
-                yield Group(str(name.value) if name and name.is_scalar() else "", group.start, max(end_of(group)[0], group.start))
+                length = len(file.source.text[group.start : end_of(group)[0]].rstrip())
+                yield Group(str(name.value) if name and name.is_scalar() else "", group.start, group.start + length)
 
 
 def symbols(document: Document) -> List[Any]:

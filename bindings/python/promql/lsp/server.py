@@ -14,7 +14,7 @@ import promql
 
 from ..files import FileError
 from ..queries import Edit
-from .documents import Document, diagnostics, query_problems
+from .documents import TOO_LARGE, Document, diagnostics, query_problems
 from .features import ABOUT_ALL, ABOUT_PLACES, CAPABILITIES, Asking, Later, Workspace, text_edits, uri_of
 from .helper import Helper
 from .layout import LeftError, Look, lines_edits, node_edits, query_edits
@@ -48,7 +48,6 @@ _PATIENCE_WITH_SERVER = 0.3
 _MOST_WAITING = 1_000
 _CODE_ACTION = "textDocument/codeAction"
 _FORMATTINGS = ("textDocument/formatting", "textDocument/rangeFormatting")
-_LARGE = "larger than what the language server looks at"
 
 
 class End:
@@ -283,7 +282,7 @@ class Server:
         """Tells what is wrong with a document, or sees to it that it is read."""
         self._unread.pop(document.uri, None)
         if document.is_large:
-            self._show(document, [Problem(0, 0, ERROR, _LARGE)])
+            self._show(document, [TOO_LARGE])
         elif document.is_rule_file:
             self._unread[document.uri] = time.monotonic() + (0 if at_once else PAUSE)
         else:
@@ -307,7 +306,7 @@ class Server:
         document = self._workspace.document(params)
         span = document.lines.span(params.get("range")) if has_range else None
         if document.is_large:
-            raise ProtocolError(REQUEST_FAILED, _LARGE)
+            raise ProtocolError(REQUEST_FAILED, TOO_LARGE.message)
         if document.is_rule_file:
             edits = self._few_edits(document, span)
             later = Later(document, FORMAT, span, lambda made: text_edits(document, made))
@@ -417,6 +416,8 @@ class Server:
         times = [it.until - now for it in self._waiting]
         if self._helper.job:
             times.append(0.25)
+        elif self._jobs:
+            times.append(0.0)
         elif self._unread:
             times.append(min(self._unread.values()) - now)
         return max(min(times), 0.0) if times else None

@@ -10,6 +10,8 @@ from ..lint.table import REJECTED, Selection
 from ..options import PEOPLE, STYLES, WIDTH
 from ..team_settings import TeamSettings, settings_of
 
+_LONGEST_PATH = 4_096
+
 
 class Settings(NamedTuple):
     # How queries of files are laid out, where the editor or the team says it; one with a comment is laid out for people in any case.
@@ -34,7 +36,7 @@ class Settings(NamedTuple):
         """These, with what the settings of the team say of a file."""
         name = path_of(uri)
         try:
-            team = settings_of(name) if name else TeamSettings()
+            team = settings_of(name) if 0 < len(name) <= _LONGEST_PATH else TeamSettings()
         except (FileError, RecursionError) as error:
             return self._replace(style=self.style or PEOPLE, fault=str(error))
         selection = Selection(tuple(team.table.get("select", ())), (REJECTED,), team.steps(name))

@@ -15,7 +15,7 @@ from .rules import PlacedQuery
 _KEY = re.compile(r"(?:^|[-{,])[ \t]*([\"']?)expr\1[ \t]*:[ \t]*")
 _HEADER = re.compile(r"(?:[|>][-+1-9]*)?[ \t]*(?:#.*)?$")
 # What a text in these quotes is made of, up to its end where it has one.
-_PIECES = {'"': re.compile(r'\\?[^"\r\n]|\\"'), "'": re.compile(r"[^'\r\n]|''"), "": re.compile(r"[^\r\n]")}
+_PIECES = {'"': re.compile(r'\\[^\r\n]|[^"\\\r\n]'), "'": re.compile(r"[^'\r\n]|''"), "": re.compile(r"[^\r\n]")}
 _LINE = re.compile(r"[^\r\n]*")
 _MEANINGS = {"\\n": "\n", "\\t": "\t", "''": "'"}
 
@@ -27,11 +27,11 @@ def query_at(text: str, offset: int, is_json: bool, is_read: bool) -> Optional[P
     value = _value(line, offset - begin)
     if value is None and line.strip() or not (may_have_queries(text) if is_json else GROUPS.search(text)):
         return None
-    if value is None:
-        return PlacedQuery("", range(offset, offset + 1)) if _is_below(text, begin, offset) else None
+    is_empty = _is_below(text, begin, offset) if value is None else line[value:].lstrip()[:1] in ("", "#")
+    if is_empty:
+        return PlacedQuery("", range(offset, offset + 1))
     # (of a value that was read it is known whether it is a query)
-    is_other = line[value:].strip() and (is_read or _HEADER.match(line, value))
-    return None if is_other else _on_line(text, begin + value)
+    return None if value is None or is_read or _HEADER.match(line, value) else _on_line(text, begin + value)
 
 
 def _value(line: str, before: int) -> Optional[int]:
