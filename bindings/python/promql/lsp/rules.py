@@ -19,9 +19,9 @@ from ..rule_files import RuleFile
 from ..token_texts import tokens_of
 from ..yaml_nodes import Node
 from .findings import lint_problems
-from .names import names_of, names_with
+from .names import Names, names_of, names_with
 from .problems import ERROR, WARNING, Problem
-from .roles import roles_of
+from .roles import Role, roles_of
 from .selection import folds_of
 from .settings import Settings
 
@@ -30,7 +30,28 @@ NAME = "document"
 _MOST_NODES, _MOST_TOKENS = 10_000, 100_000
 # Lines that are longer are not read by themselves.
 _LONGEST_LINES = 16_384
+# Of longer queries nothing is kept.
+_LONGEST_KEPT = 400
 _LINE_BEGINS = re.compile(r"\r\n|\r|\n")
+
+
+class LookedAt(NamedTuple):
+    """What is in a query, and how many tokens it has."""
+
+    names: Names
+    roles: Tuple[Role, ...]
+    folds: List[Tuple[int, int]]
+    tokens: int
+
+
+def looked_at(text: str) -> LookedAt:
+    """What is in a query; that of short ones is kept, since few of a file that is read again are new."""
+    return _looked_at(text) if len(text) <= _LONGEST_KEPT else _looked_at.__wrapped__(text)
+
+
+@lru_cache(maxsize=2_048)
+def _looked_at(text: str) -> LookedAt:
+    return LookedAt(names_of(text), roles_of(text), folds_of(text), len(tokens_of(text)))
 
 
 class PlacedQuery:
@@ -39,9 +60,9 @@ class PlacedQuery:
     def __init__(self, text: str, offsets: Sequence[int], variables: Optional[VariableTexts] = None) -> None:
         self.text = text
         self.variables = variables
-        self.names = names_with(names_of(text), lambda name: self.shown(name) == name) if variables else names_of(text)
-        self.roles = roles_of(text)
-        self.folds = folds_of(text)
+        self.names, self.roles, self.folds, _ = looked_at(text)
+        if variables:
+            self.names = names_with(self.names, lambda name: self.shown(name) == name)
         # Whether its characters are beside each other on one line.
         self.is_line = offsets[len(text)] - offsets[0] == len(text) and "\n" not in text and "\r" not in text
         self.start = offsets[0]
@@ -121,20 +142,21 @@ file_of = lru_cache(maxsize=1)(read_file)
 
 def rules_of(file: Union[Dashboard, RuleFile]) -> List[Rule]:
     text, budget = file.source.text, Budget(_MOST_TOKENS)
-    queries = [query for query in _admitted(file) if budget.takes(0) and budget.takes(len(tokens_of(query.text)))]
-    queries.sort(key=lambda query: query.offsets[0])
+    admitted = (query for query in _admitted(file) if budget.takes(0) and budget.takes(looked_at(query.text).tokens))
+    placed = (PlacedQuery(query.text, query.offsets, query.variables) for query in admitted)
+    queries = sorted(placed, key=lambda query: query.start)
     if isinstance(file, Dashboard):
         return list(map(_lone, queries))
     found: List[Rule] = []
     used = 0
     for node in sorted(file.rules(), key=lambda rule: rule.start):
         end, is_whole = end_of(node)
-        while used < len(queries) and queries[used].offsets[0] < node.start:
+        while used < len(queries) and queries[used].start < node.start:
             found.append(_lone(queries[used]))
             used += 1
         own: List[PlacedQuery] = []
-        while used < len(queries) and queries[used].offsets[0] < end:
-            own.append(PlacedQuery(queries[used].text, queries[used].offsets))
+        while used < len(queries) and queries[used].start < end:
+            own.append(queries[used])
             used += 1
         found.append(_rule(file, node, end, is_whole, own, text))
     found += map(_lone, queries[used:])
@@ -156,9 +178,8 @@ def rules_at(file: RuleFile, offsets: Iterable[int]) -> Iterator[Optional[Rule]]
         yield _rule(file, nodes[number], end, is_whole, [], file.source.text) if offset < end else None
 
 
-def _lone(query: Query) -> Rule:
-    placed = PlacedQuery(query.text, query.offsets, query.variables)
-    return Rule(placed.start, placed.end, False, "", 0, 0, "", [placed])
+def _lone(query: PlacedQuery) -> Rule:
+    return Rule(query.start, query.end, False, "", 0, 0, "", [query])
 
 
 def end_of(rule: Node) -> Tuple[int, bool]:
