@@ -2,67 +2,45 @@
 
 from __future__ import annotations
 
-from typing import Any, Dict, Iterator, List, NamedTuple, Optional, Sequence, Tuple
+from typing import Any, Dict, Iterator, List, Optional, Tuple
 
 from ..documents import Document as File
-from ..files import FileError
 from ..lint.file_findings import FileLinter
 from ..lint.table import Selection
 from ..queries import Edit
 from .documents import Document, diagnostic
 from .layout import LeftError
+from .problems import Problem
 
 QUICK_FIX, FIX_ALL = "quickfix", "source.fixAll"
-_LONGEST_TITLE = 120
-
-
-class Wanted(NamedTuple):
-    """The finding whose fix is wanted, `text[start:end]` of a document; without a code all fixes are."""
-
-    start: int = 0
-    end: int = 0
-    code: str = ""
 
 
 def actions(document: Document, span: Tuple[int, int], only: Any) -> Iterator[Dict[str, Any]]:
     """What may be done in a part of a document, of the kinds that are asked for."""
-    fixable = [it for it in document.problems if it.is_fixable]
-    if _is_asked(QUICK_FIX, only):
-        for it in fixable:
-            if it.start <= span[1] and span[0] <= it.end:
-                title = f"Fix {it.code}: {it.message}"
-                shown = title[:_LONGEST_TITLE] + "…" * (len(title) > _LONGEST_TITLE)
-                found = {"title": shown, "kind": QUICK_FIX, "diagnostics": [diagnostic(document, it)], "isPreferred": True}
-                yield {**found, "data": _data(document, Wanted(it.start, it.end, it.code))}
+    fixable = [(number, it) for number, it in enumerate(document.problems) if it.is_fixable]
+    for number, it in fixable if _is_asked(QUICK_FIX, only) else ():
+        if it.start <= span[1] and span[0] <= it.end:
+            found = _action(document, QUICK_FIX, f"Fix {it.code}: {it.message}", number)
+            yield {**found, "diagnostics": [diagnostic(document, it)], "isPreferred": True}
     if fixable and _is_asked(FIX_ALL, only):
-        yield {"title": "Fix all that the linter has a fix for", "kind": FIX_ALL, "data": _data(document, Wanted())}
+        yield _action(document, FIX_ALL, "Fix all that the linter has a fix for", -1)
 
 
 def _is_asked(kind: str, only: Any) -> bool:
     return not isinstance(only, list) or any(isinstance(it, str) and f"{kind}.promql.".startswith(f"{it}.") for it in only)
 
 
-def _data(document: Document, wanted: Wanted) -> Dict[str, Any]:
-    return {"uri": document.uri, "version": document.version, "wanted": list(wanted)}
+def _action(document: Document, kind: str, title: str, number: int) -> Dict[str, Any]:
+    return {"title": title, "kind": kind, "data": {"uri": document.uri, "version": document.version, "number": number}}
 
 
-def wanted_of(data: Any) -> Optional[Wanted]:
-    """What the data of an action say."""
-    wanted = data.get("wanted") if isinstance(data, dict) else None
-    is_one = isinstance(wanted, list) and len(wanted) == 3 and all(map(isinstance, wanted, (int, int, str)))
-    return Wanted(*wanted) if is_one and wanted else None
-
-
-def fix_edits(file: File, selection: Selection, wanted: Sequence[Wanted]) -> List[List[Edit]]:
-    """The edits of a file that make each of these fixes, after which it is read as it is to be."""
-    return [_edits(FileLinter(file, selection), it) for it in wanted]
-
-
-def _edits(linter: FileLinter, wanted: Wanted) -> List[Edit]:
-    if not wanted.code:
+def fix_edits(file: File, selection: Selection, wanted: Optional[Problem]) -> List[Edit]:
+    """The edits of a file that make the fix of a finding, or all fixes, after which it is read as it is to be."""
+    linter = FileLinter(file, selection)
+    if not wanted:
         linter.fixed()
         return linter.fixed_edits
     for found in linter.findings():
-        if (found.start, found.end, found.finding.code) == wanted and found.finding.fix:
+        if found.finding.fix and (found.start, found.end, found.finding.code) == (wanted.start, wanted.end, wanted.code):
             return linter.edits_of(found)
-    raise LeftError("there is no such fix any more")
+    raise LeftError("left as it is: there is no such fix any more")

@@ -10,7 +10,7 @@ from . import actions, completion, hover, navigation, outline, selection, semant
 from .documents import Document, Place
 from .folder_rename import Renaming
 from .functions import Function
-from .messages import CONTENT_MODIFIED, INVALID_PARAMS, REQUEST_FAILED, ProtocolError
+from .messages import CONTENT_MODIFIED, INVALID_PARAMS, ProtocolError, member, whole
 from .names import Known, known
 from .prometheus import Prometheus
 from .roles import TYPES
@@ -57,9 +57,13 @@ class Workspace:
             self.wait_for_server()
         return found
 
+    @property
+    def is_asking(self) -> bool:
+        return self.prometheus is not None and self.prometheus.is_busy
+
     def wait_for_server(self) -> None:
         """Has the request served later, where the server was asked something and may answer soon."""
-        if self.prometheus and self.prometheus.is_busy and self.is_patient:
+        if self.is_asking and self.is_patient:
             raise Asking()
 
 
@@ -85,8 +89,7 @@ class At(NamedTuple):
 
 
 def uri_of(params: Any) -> str:
-    document = params.get("textDocument") if isinstance(params, dict) else None
-    uri = document.get("uri") if isinstance(document, dict) else None
+    uri = member(params, "textDocument", "uri")
     if not isinstance(uri, str):
         raise ProtocolError(INVALID_PARAMS, "no `textDocument`")
     return uri
@@ -105,9 +108,9 @@ def on_hover(workspace: Workspace, params: Any) -> Any:
         return None
     text, metric = at.place.query.shown(found.text), navigation.metric_at(at.document, at.offset)
     if metric and workspace.prometheus:
-        told = workspace.prometheus.metadata(metric.name)
+        told = workspace.prometheus.help(metric.name)
         workspace.wait_for_server()
-        text += f"\n\nOn the server: {_plain(told.type)}. {_plain(told.help)}" if told else ""
+        text += f"\n\nOn the server: {_plain(told)}" if told else ""
     for document, start, _ in navigation.records(workspace.all, metric.name) if metric else ():
         rule = next(rule for rule in document.rules if rule.record_start == start)
         for query in rule.queries[:1]:
@@ -136,8 +139,7 @@ def on_completion(workspace: Workspace, params: Any) -> Any:
     is_after = found.start == found.end == len(text)
     edit_range = at.document.lines.range(at.offset, at.offset) if is_after else at.document.range_in(at.place.query, found.start, found.end)
     shown = [completion.shown(item, edit_range, workspace.has_snippets) for item in items[: completion.MOST_ITEMS]]
-    is_asking = workspace.prometheus is not None and workspace.prometheus.is_busy
-    return {"isIncomplete": len(items) > len(shown) or is_asking, "items": shown}
+    return {"isIncomplete": len(items) > len(shown) or workspace.is_asking, "items": shown}
 
 
 def _goes_on(label: str, word: str) -> bool:
@@ -186,9 +188,8 @@ def on_references(workspace: Workspace, params: Any) -> Any:
     metric = navigation.metric_at(at.document, at.offset)
     if not metric:
         return None
-    context = params.get("context")
     found = list(navigation.uses(workspace.all, metric.name))
-    if isinstance(context, dict) and context.get("includeDeclaration"):
+    if member(params, "context", "includeDeclaration"):
         found = [*navigation.records(workspace.all, metric.name), *found]
     return [navigation.location(*place) for place in found]
 
@@ -208,17 +209,9 @@ def on_rename(workspace: Workspace, params: Any) -> Any:
     if not metric or not isinstance(new, str):
         raise ProtocolError(INVALID_PARAMS, "there is no metric here")
     changes = navigation.rename(workspace.all, metric.name, new)
-    if not workspace.folders:
-        return _renamed(changes)
-    opened = tuple(filter(None, (path_of(document.uri) for document in workspace.all)))
-    renaming = Renaming(metric.name, new, tuple(workspace.folders), opened)
-    return Later(at.document, RENAME, renaming, lambda others: _renamed({**others, **changes}))
-
-
-def _renamed(changes: Dict[str, Any]) -> Any:
-    if not changes:
-        raise ProtocolError(REQUEST_FAILED, "there is no metric of this name")
-    return {"changes": changes}
+    renaming = Renaming(metric.name, new, workspace.folders, [path_of(document.uri) for document in workspace.all])
+    later = Later(at.document, RENAME, renaming, lambda others: {"changes": {**others, **changes}})
+    return later if workspace.folders else later.answer({})
 
 
 def on_selection_range(workspace: Workspace, params: Any) -> Any:
@@ -250,15 +243,6 @@ def on_semantic_tokens(workspace: Workspace, params: Any) -> Any:
     return {"data": semantic.encoded(document.lines, document.queries(), start, end)}
 
 
-def on_document_symbol(workspace: Workspace, params: Any) -> Any:
-    document = workspace.document(params)
-    return outline.symbols(document) if document.is_rule_file else []
-
-
-def on_folding_range(workspace: Workspace, params: Any) -> Any:
-    return outline.folds(workspace.document(params))
-
-
 def on_document_highlight(workspace: Workspace, params: Any) -> Any:
     """The places of a metric in the document, written or read; of any other word those in the query."""
     at = _at(workspace, params)
@@ -279,36 +263,25 @@ def on_code_action(workspace: Workspace, params: Any) -> Any:
     document = workspace.document(params)
     if not document.is_told:
         raise ProtocolError(CONTENT_MODIFIED, "the document is not read yet")
-    context = params.get("context")
     span = document.lines.span(params.get("range"))
-    found = list(actions.actions(document, span, context.get("only") if isinstance(context, dict) else None))
-    if workspace.resolves or not found:
-        return found
-    wanted = [actions.Wanted(*it["data"]["wanted"]) for it in found]
-    return Later(document, FIX, wanted, lambda made: [_with_edit(document, *it) for it in zip(found, made)])
+    # (an editor that never asks for edits would do nothing)
+    return list(actions.actions(document, span, member(params, "context", "only"))) if workspace.resolves else []
 
 
 def on_resolve(workspace: Workspace, params: Any) -> Any:
     """A code action with its edit."""
-    data: Any = params.get("data") if isinstance(params, dict) else None
-    wanted = actions.wanted_of(data)
-    if not wanted:
-        raise ProtocolError(INVALID_PARAMS, "no `data` of this server")
-    document = workspace.document_of(str(data.get("uri")))
-    if data.get("version") != document.version:
+    document, number = workspace.document_of(str(member(params, "data", "uri"))), whole(member(params, "data"), "number", -1)
+    if member(params, "data", "version") != document.version or not document.is_told or number >= len(document.problems):
         raise ProtocolError(CONTENT_MODIFIED, "the document was changed meanwhile")
-    return Later(document, FIX, [wanted], lambda made: _with_edit(document, params, made[0]))
-
-
-def _with_edit(document: Document, action: Any, edits: List[Edit]) -> Any:
-    return {**action, "edit": {"changes": {document.uri: text_edits(document, edits)}}}
+    wanted = document.problems[number] if number >= 0 else None
+    return Later(document, FIX, wanted, lambda made: {**params, "edit": {"changes": {document.uri: text_edits(document, made)}}})
 
 
 def text_edits(document: Document, edits: List[Edit]) -> List[Any]:
     return [{"range": document.lines.range(edit.start, edit.end), "newText": edit.text} for edit in edits]
 
 
-ABOUT_PLACES = {
+ABOUT_PLACES: Dict[str, Callable[[Workspace, Any], Any]] = {
     "textDocument/hover": on_hover,
     "textDocument/completion": on_completion,
     "textDocument/signatureHelp": on_signature_help,
@@ -317,8 +290,8 @@ ABOUT_PLACES = {
     "textDocument/prepareRename": on_prepare_rename,
     "textDocument/rename": on_rename,
     "textDocument/selectionRange": on_selection_range,
-    "textDocument/documentSymbol": on_document_symbol,
-    "textDocument/foldingRange": on_folding_range,
+    "textDocument/documentSymbol": lambda workspace, params: outline.symbols(workspace.document(params)),
+    "textDocument/foldingRange": lambda workspace, params: outline.folds(workspace.document(params)),
     "textDocument/documentHighlight": on_document_highlight,
     "textDocument/codeAction": on_code_action,
     "codeAction/resolve": on_resolve,

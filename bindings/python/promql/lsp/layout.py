@@ -15,6 +15,7 @@ from ..queries import Edit, Query, edited
 from ..rule_files import RuleFile
 from ..token_texts import comments_of
 from .rules import Rule, file_of, lines_before, read_file, rules_at
+from .settings import Settings
 
 # How many rules are looked at while the editor waits.
 _FEW = 40
@@ -31,26 +32,19 @@ class LeftError(Exception):
 Span = Tuple[int, int]
 
 
-class Look(NamedTuple):
-    """How queries of files are laid out."""
-
-    style: str = PEOPLE
-    width: int = WIDTH
-
-
-def rule_file_edits(text: str, span: Optional[Span], look: Look = Look(), is_json: bool = False) -> List[Edit]:
+def rule_file_edits(text: str, span: Optional[Span], settings: Settings = Settings(), is_json: bool = False) -> List[Edit]:
     """The edits that lay out the queries of a file, or those of them that are in a part of it. What is rejected is left."""
-    return _edits_in(file_of(text, is_json), span, look, by_rules=True)
+    return _edits_in(file_of(text, is_json), span, settings, by_rules=True)
 
 
-def _edits_in(file: Union[Dashboard, RuleFile], span: Optional[Span], look: Look, by_rules: bool) -> List[Edit]:
+def _edits_in(file: Union[Dashboard, RuleFile], span: Optional[Span], settings: Settings, by_rules: bool) -> List[Edit]:
     """The same. By rules, only those that change are read again, where they are few, and not all of the file."""
-    text, printers = file.source.text, _Printers(look)
+    text, printers = file.source.text, _Printers(settings)
     changes = [(query, new) for query in file.queries if _is_in(query, span) for new in [printers.laid_out(query)] if new is not None]
     if not changes:
         return []
     edits = [query.spelling.edit(new) for query, new in changes]
-    if by_rules and isinstance(file, RuleFile) and len(edits) <= _FEW and _means_the_same_by_rules(file, changes, edits, look):
+    if by_rules and isinstance(file, RuleFile) and len(edits) <= _FEW and _means_the_same_by_rules(file, changes, edits, settings):
         return sorted(edits)
     if not _means_the_same(file, printers, changes, edited(text, edits)):
         raise LeftError(_NOT_SAME)
@@ -60,9 +54,9 @@ def _edits_in(file: Union[Dashboard, RuleFile], span: Optional[Span], look: Look
 class _Printers:
     """How queries are written: those with a comment for people, since every other layout loses it."""
 
-    def __init__(self, look: Look) -> None:
-        self._of_others = Printer(look.width, False, str, look.style)
-        self._of_noted = Printer(look.width, False, str, PEOPLE)
+    def __init__(self, settings: Settings) -> None:
+        self._of_others = Printer(settings.width, False, str, settings.style)
+        self._of_noted = Printer(settings.width, False, str, PEOPLE)
 
     def of(self, query: Query) -> Printer:
         return self._of_noted if comments_of(query.text) else self._of_others
@@ -94,13 +88,13 @@ def _means_the_same(file: Union[Dashboard, RuleFile], printers: _Printers, chang
         return False
 
 
-def _means_the_same_by_rules(file: RuleFile, changes: List[Tuple[Query, str]], edits: List[Edit], look: Look) -> bool:
+def _means_the_same_by_rules(file: RuleFile, changes: List[Tuple[Query, str]], edits: List[Edit], settings: Settings) -> bool:
     """Whether each edit is that of a rule which can be looked at by itself."""
     text = file.source.text
     rules = {rule.start if rule else -1: rule for rule in rules_at(file, [query.offsets[0] for query, _ in changes])}
     parts = [_part(text, rule) if rule else None for rule in rules.values()]
     try:
-        found = [edit for part in parts if part for edit in _edits_of(part, look)]
+        found = [edit for part in parts if part for edit in _edits_of(part, settings)]
     except (LeftError, FileError):
         return False
     return None not in parts and sorted(found) == sorted(edits)
@@ -116,14 +110,14 @@ class _Part(NamedTuple):
     text: str
 
 
-def lines_edits(text: str, rules: List[Rule], span: Span, look: Look = Look()) -> Optional[List[Edit]]:
+def lines_edits(text: str, rules: List[Rule], span: Span, settings: Settings = Settings()) -> Optional[List[Edit]]:
     """The edits of a part of a file that is read, where few rules are in it; nothing where they have to be looked at with all others."""
     begins = [*(rule.start for rule in rules), len(text)]
     inside = [rule for number, rule in enumerate(rules) if rule.start <= span[1] and span[0] <= begins[number + 1]]
     parts = [_part(text, rule) for rule in inside]
     if len(inside) > _FEW or None in parts:
         return None
-    found = [_edits_of(part, look, span) for rule, part in zip(inside, parts) if part and rule.end >= span[0]]
+    found = [_edits_of(part, settings, span) for rule, part in zip(inside, parts) if part and rule.end >= span[0]]
     return [edit for edits in found for edit in edits] if None not in found else None
 
 
@@ -137,11 +131,11 @@ def _part(text: str, rule: Rule) -> Optional[_Part]:
     return _Part(rule.start, lines) if lines_before(lines) is not None else None
 
 
-def _edits_of(part: _Part, look: Look, span: Optional[Span] = None) -> List[Edit]:
+def _edits_of(part: _Part, settings: Settings, span: Optional[Span] = None) -> List[Edit]:
     before = lines_before(part.text) or ""
     by = part.start - len(before)
     inside = (max(span[0] - by, 0), max(span[1] - by, 0)) if span else None
-    edits = _edits_in(read_file(before + part.text), inside, look, by_rules=False)
+    edits = _edits_in(read_file(before + part.text), inside, settings, by_rules=False)
     return [Edit(edit.start + by, edit.end + by, edit.text) for edit in edits]
 
 
@@ -151,19 +145,19 @@ class RuleLayouts:
     def __init__(self) -> None:
         # The edits of a rule, counted from its first line on.
         self._known: Dict[str, Tuple[Edit, ...]] = {}
-        self._look = Look()
+        self._settings = Settings()
 
-    def edits(self, text: str, rules: List[Rule], look: Look = Look()) -> Optional[List[Edit]]:
+    def edits(self, text: str, rules: List[Rule], settings: Settings = Settings()) -> Optional[List[Edit]]:
         """The edits of a file that is read; nothing where it has to be looked at as a whole, since many of its rules are new."""
-        if look != self._look:
-            self._known, self._look = {}, look
+        if settings != self._settings:
+            self._known, self._settings = {}, settings
         parts = [_part(text, rule) for rule in rules]
         unknown = [part for part in parts if part and part.text not in self._known]
         # (a rule without a query may be of a file whose queries are not PromQL)
         if None in parts or len(unknown) > _FEW or not all(rule.queries for rule in rules):
             return None
         for part in unknown:
-            self._known[part.text] = tuple(_moved(_edits_of(part, look), -part.start))
+            self._known[part.text] = tuple(_moved(_edits_of(part, settings), -part.start))
         if len(self._known) > 4 * len(parts) + _FEW:
             self._known = {part.text: self._known[part.text] for part in parts if part}
         return [edit for part in parts if part for edit in _moved(self._known[part.text], part.start)]

@@ -2,8 +2,7 @@
 
 from __future__ import annotations
 
-from bisect import bisect_left, bisect_right
-from typing import TYPE_CHECKING, Any, Dict, Iterator, List, NamedTuple, Optional, Union
+from typing import TYPE_CHECKING, Any, Dict, Iterator, List, NamedTuple, Optional, Tuple
 
 from ..dashboards import Dashboard
 from ..files import FileError
@@ -52,21 +51,24 @@ def _groups(file: RuleFile) -> Iterator[Group]:
 
 def symbols(document: Document) -> List[Any]:
     """The groups with their rules, and the rules that are in none; a query that is in no rule has its text as its name."""
-    starts = [rule.start for rule in document.rules]
-    found, used = [], 0
-    for group in sorted(document.groups, key=lambda it: it.start):
-        first, last = max(bisect_left(starts, group.start), used), bisect_right(starts, group.end)
-        found += [_of_rule(document, rule) for rule in document.rules[used:first]]
-        inner = [_of_rule(document, rule) for rule in document.rules[first:last]]
-        found.append({**_symbol(document, group.name, _GROUP, group.start, group.end), "children": inner})
-        used = max(first, last)
-    return found + [_of_rule(document, rule) for rule in document.rules[used:]]
+    if not document.is_rule_file:
+        return []
+    found: List[Any] = []
+    inner, until = found, -1
+    entries = [(it.start, _GROUP, it.end, it.name) for it in document.groups] + [_entry(rule) for rule in document.rules]
+    for start, kind, end, name in sorted(entries):
+        symbol = _symbol(document, name, kind, start, end)
+        if kind == _GROUP:
+            found.append({**symbol, "children": []})
+            inner, until = found[-1]["children"], end
+        else:
+            (inner if start <= until else found).append(symbol)
+    return found
 
 
-def _of_rule(document: Document, rule: Rule) -> Dict[str, Any]:
+def _entry(rule: Rule) -> Tuple[int, int, int, str]:
     kind = _RECORD if rule.record else _ALERT if rule.alert else _QUERY
-    name = rule.record or rule.alert or " ".join(query.shown(query.text) for query in rule.queries)
-    return _symbol(document, name, kind, rule.start, rule.end)
+    return rule.start, kind, rule.end, rule.record or rule.alert or " ".join(query.shown(query.text) for query in rule.queries)
 
 
 def _symbol(document: Document, name: str, kind: int, start: int, end: int) -> Dict[str, Any]:

@@ -6,7 +6,7 @@ import re
 from typing import Any, Dict, Tuple
 
 from ..line_index import LineIndex
-from .messages import INVALID_PARAMS, ProtocolError
+from .messages import INVALID_PARAMS, ProtocolError, whole
 
 _WIDE = re.compile("[\U00010000-\U0010ffff]")
 
@@ -65,11 +65,3 @@ class Lines:
 def units(text: str) -> int:
     """How many UTF-16 units a text has."""
     return len(text) + len(_WIDE.findall(text))
-
-
-def whole(holder: Any, name: str) -> int:
-    """A number of a message that counts something."""
-    number = holder.get(name) if isinstance(holder, dict) else None
-    if not isinstance(number, int) or isinstance(number, bool) or number < 0:
-        raise ProtocolError(INVALID_PARAMS, f"`{name}` is no number from 0 on")
-    return number

@@ -7,7 +7,7 @@ import threading
 import time
 import urllib.parse
 from collections import deque
-from typing import Any, Callable, Deque, Dict, List, NamedTuple, Optional, Set, Tuple
+from typing import Any, Callable, Deque, Dict, List, Optional, Tuple
 
 from ..prometheus_api import ApiBounds, ApiError, PrometheusApi
 from .names import Known
@@ -15,8 +15,8 @@ from .names import Known
 # One request has so many seconds and bytes. At most so many are made in a minute, after which an answer is asked for again.
 _BOUNDS = ApiBounds(max_requests=1, request_timeout=2, server_timeout=2, max_answer=8 * 1024 * 1024)
 _MOST_REQUESTS, _AGE = 120, 60.0
-# The most names that are kept of an answer, and of all answers together.
-_MOST_NAMES, _MOST_KEPT = 50_000, 500_000
+# The most names that are kept of an answer.
+_MOST_NAMES = 20_000
 _ENDS = ("_bucket", "_sum", "_count", "_total")
 
 Key = Tuple[str, Tuple[Tuple[str, str], ...]]
@@ -24,11 +24,6 @@ Key = Tuple[str, Tuple[Tuple[str, str], ...]]
 
 class NotHere(ValueError):
     """The URL is none of a server on this machine."""
-
-
-class Metadata(NamedTuple):
-    type: str
-    help: str
 
 
 class Prometheus:
@@ -64,11 +59,10 @@ class Prometheus:
             labels.discard("__name__")
         return found
 
-    def metadata(self, metric: str) -> Optional[Metadata]:
+    def help(self, metric: str) -> str:
         """The type and the help of a metric, or those of the histogram or the counter that it is of."""
         names = [metric, *(metric[: -len(end)] for end in _ENDS if metric.endswith(end))]
-        found = [it for name in names for it in self._ask("metadata", metric=name, limit_per_metric="1")]
-        return found[0] if found else None
+        return next((it for name in names for it in self._ask("metadata", metric=name, limit_per_metric="1")), "")
 
     @property
     def is_busy(self) -> bool:
@@ -108,8 +102,7 @@ class Prometheus:
             answer = self._answer(key)
             with self._lock:
                 self._wanted.popleft()
-                if sum(len(kept) for _, kept in self._told.values()) + len(answer) > _MOST_KEPT:
-                    self._told = {}
+                self._told = {} if len(self._told) >= _MOST_REQUESTS else self._told
                 self._told[key] = time.monotonic(), answer
         self.report()
 
@@ -123,7 +116,7 @@ class Prometheus:
             return data[:_MOST_NAMES] if isinstance(data, list) else []
         found = data.get(key[1][0][1]) if isinstance(data, dict) else None
         first = found[0] if isinstance(found, list) and found and isinstance(found[0], dict) else {}
-        return [Metadata(str(first.get("type")), str(first.get("help")))] if first else []
+        return [f"{first.get('type')}. {first.get('help')}"] if first else []
 
 
 def _is_here(host: str) -> bool:

@@ -35,23 +35,20 @@ _LONGEST_KEPT = 400
 _LINE_BEGINS = re.compile(r"\r\n|\r|\n")
 
 
-class LookedAt(NamedTuple):
-    """What is in a query, and how many tokens it has."""
+# The names of a query, its roles and folds, and how many tokens it has.
+LookedAt = Tuple[Names, Tuple[Role, ...], List[Tuple[int, int]], int]
 
-    names: Names
-    roles: Tuple[Role, ...]
-    folds: List[Tuple[int, int]]
-    tokens: int
+
+def _look_at(text: str) -> LookedAt:
+    return names_of(text), roles_of(text), folds_of(text), len(tokens_of(text))
+
+
+_looked_at = lru_cache(maxsize=2_048)(_look_at)
 
 
 def looked_at(text: str) -> LookedAt:
     """What is in a query; that of short ones is kept, since few of a file that is read again are new."""
-    return _looked_at(text) if len(text) <= _LONGEST_KEPT else _looked_at.__wrapped__(text)
-
-
-@lru_cache(maxsize=2_048)
-def _looked_at(text: str) -> LookedAt:
-    return LookedAt(names_of(text), roles_of(text), folds_of(text), len(tokens_of(text)))
+    return _looked_at(text) if len(text) <= _LONGEST_KEPT else _look_at(text)
 
 
 class PlacedQuery:
@@ -142,7 +139,7 @@ file_of = lru_cache(maxsize=1)(read_file)
 
 def rules_of(file: Union[Dashboard, RuleFile]) -> List[Rule]:
     text, budget = file.source.text, Budget(_MOST_TOKENS)
-    admitted = (query for query in _admitted(file) if budget.takes(0) and budget.takes(looked_at(query.text).tokens))
+    admitted = (query for query in _admitted(file) if budget.takes(0) and budget.takes(looked_at(query.text)[3]))
     placed = (PlacedQuery(query.text, query.offsets, query.variables) for query in admitted)
     queries = sorted(placed, key=lambda query: query.start)
     if isinstance(file, Dashboard):

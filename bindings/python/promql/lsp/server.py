@@ -17,23 +17,10 @@ from ..queries import Edit
 from .documents import TOO_LARGE, Document, diagnostics, query_problems
 from .features import ABOUT_ALL, ABOUT_PLACES, CAPABILITIES, Asking, Later, Workspace, text_edits, uri_of
 from .helper import Helper
-from .layout import LeftError, Look, lines_edits, node_edits, query_edits
-from .messages import (
-    CONTENT_MODIFIED,
-    INTERNAL_ERROR,
-    INVALID_PARAMS,
-    INVALID_REQUEST,
-    METHOD_NOT_FOUND,
-    NOT_INITIALIZED,
-    REQUEST_CANCELLED,
-    REQUEST_FAILED,
-    BrokenStream,
-    Message,
-    ProtocolError,
-    decoded,
-    read_body,
-    write_message,
-)
+from .layout import LeftError, lines_edits, node_edits, query_edits
+from .messages import CONTENT_MODIFIED, INTERNAL_ERROR, INVALID_PARAMS, INVALID_REQUEST, METHOD_NOT_FOUND
+from .messages import NOT_INITIALIZED, REQUEST_CANCELLED, REQUEST_FAILED, BrokenStream, Message
+from .messages import ProtocolError, decoded, member, read_body, write_message
 from .prometheus import Prometheus
 from .problems import ERROR, WARNING, Problem
 from .settings import Settings, path_of
@@ -231,11 +218,11 @@ class Server:
             raise ProtocolError(INVALID_REQUEST, "the server is initialized")
         self._is_initialized = True
         at = ("capabilities", "textDocument")
-        self._workspace.has_snippets = _member(params, *at, "completion", "completionItem", "snippetSupport") is True
-        properties = _member(params, *at, "codeAction", "resolveSupport", "properties")
+        self._workspace.has_snippets = member(params, *at, "completion", "completionItem", "snippetSupport") is True
+        properties = member(params, *at, "codeAction", "resolveSupport", "properties")
         self._workspace.resolves = isinstance(properties, list) and "edit" in properties
-        folders = _member(params, "workspaceFolders")
-        uris = [_member(it, "uri") for it in folders] if isinstance(folders, list) else [_member(params, "rootUri")]
+        folders = member(params, "workspaceFolders")
+        uris = [member(it, "uri") for it in folders] if isinstance(folders, list) else [member(params, "rootUri")]
         self._workspace.folders = [path for path in (path_of(uri) for uri in uris if isinstance(uri, str)) if path]
         self._settings = self._settings.with_options(params.get("initializationOptions") if isinstance(params, dict) else None)
         if self._workspace.prometheus:
@@ -329,11 +316,10 @@ class Server:
         """The edits of few rules, which are made at once."""
         if not document.is_read or document.is_json:
             return None
-        look = Look(document.settings.style, document.settings.width)
         try:
             if span:
-                return lines_edits(document.text, document.rules, span, look)
-            return document.layouts.edits(document.text, document.rules, look)
+                return lines_edits(document.text, document.rules, span, document.settings)
+            return document.layouts.edits(document.text, document.rules, document.settings)
         except (LeftError, FileError, ValueError):
             # (told by the helper)
             return None
@@ -365,12 +351,7 @@ class Server:
         elif done.result is None:
             self._refuse(request, ProtocolError(REQUEST_FAILED, done.failure))
         else:
-            try:
-                result = answer(done.result)
-            except ProtocolError as error:
-                self._refuse(request, error)
-            else:
-                self._write({"id": request, "result": result})
+            self._write({"id": request, "result": answer(done.result)})
 
     def _look_around(self) -> None:
         """Gives the helper its next job, ends one that takes too long, and serves what waited long enough."""
@@ -382,16 +363,13 @@ class Server:
         if not self._helper.job:
             self._begin_job()
         now = time.monotonic()
-        ready = [it for it in self._waiting if it.until <= now or not (self._is_asking if it.is_for_server else self._waits(it.message))]
+        is_asking = self._workspace.is_asking
+        ready = [it for it in self._waiting if it.until <= now or not (is_asking if it.is_for_server else self._waits(it.message))]
         self._waiting = [it for it in self._waiting if it not in ready]
         for it in ready:
             self._workspace.is_patient = not it.is_for_server
             self._answer(it.message["id"], it.message["method"], it.message.get("params"))
         self._workspace.is_patient = True
-
-    @property
-    def _is_asking(self) -> bool:
-        return self._workspace.prometheus is not None and self._workspace.prometheus.is_busy
 
     def _begin_job(self) -> None:
         if self._jobs:
@@ -446,18 +424,10 @@ class Server:
 
 
 def _cancelled_id(message: Message) -> Union[int, str]:
-    params = message.get("params")
-    request = params.get("id") if isinstance(params, dict) else None
+    request = member(message, "params", "id")
     return request if isinstance(request, (int, str)) else ""
 
 
 def _version(holder: Any) -> int:
-    version = holder.get("version") if isinstance(holder, dict) else None
+    version = member(holder, "version")
     return version if isinstance(version, int) else 0
-
-
-def _member(holder: Any, *names: str) -> Any:
-    """What is under these names, each in the one before."""
-    for name in names:
-        holder = holder.get(name) if isinstance(holder, dict) else None
-    return holder

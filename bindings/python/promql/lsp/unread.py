@@ -5,25 +5,23 @@ from __future__ import annotations
 import re
 from typing import Optional
 
-import promql
-
 from ..dashboards import may_have_queries
 from ..documents import GROUPS
-from ..queries import PlacedText
+from ..scalars import Scalar, flow_text
 from .rules import PlacedQuery
 
 _KEY = re.compile(r"(?:^|[-{,])[ \t]*([\"']?)expr\1[ \t]*:[ \t]*")
 _HEADER = re.compile(r"(?:[|>][-+1-9]*)?[ \t]*(?:#.*)?$")
-# What a text in these quotes is made of, up to its end where it has one.
-_PIECES = {'"': re.compile(r'\\[^\r\n]|[^"\\\r\n]'), "'": re.compile(r"[^'\r\n]|''"), "": re.compile(r"[^\r\n]")}
-_LINE = re.compile(r"[^\r\n]*")
-_MEANINGS = {"\\n": "\n", "\\t": "\t", "''": "'"}
+# A text in quotes up to its end, where it has one. (What is longer than this is no query.)
+_VALUE = re.compile(r""""(?:\\[^\r\n]|[^"\\\r\n]){0,40000}|'(?:''|[^'\r\n]){0,40000}|[^\r\n]{0,40000}""")
+_LINE_END = re.compile(r"[\r\n]|\Z")
 
 
 def query_at(text: str, offset: int, is_json: bool, is_read: bool) -> Optional[PlacedQuery]:
     """The query around a place, or an empty one that may be written there."""
     begin = max(text.rfind("\n", 0, offset), text.rfind("\r", 0, offset)) + 1
-    line = _line(text, begin)
+    found = _LINE_END.search(text, begin)
+    line = text[begin : found.start() if found else begin]
     value = _value(line, offset - begin)
     if value is None and line.strip() or not (may_have_queries(text) if is_json else GROUPS.search(text)):
         return None
@@ -40,24 +38,13 @@ def _value(line: str, before: int) -> Optional[int]:
     return found[-1] if found else None
 
 
-def _line(text: str, begin: int) -> str:
-    found = _LINE.match(text, begin)
-    return found[0] if found else ""
-
-
 def _on_line(text: str, start: int) -> PlacedQuery:
     """What is written from there on."""
-    quote = text[start : start + 1] if text[start : start + 1] in ("'", '"') else ""
-    read, at = PlacedText(), start + len(quote)
-    # (what is longer than a query may be is not read as one)
-    while len(read.offsets) <= promql.limits()["max_len"]:
-        piece = _PIECES[quote].match(text, at)
-        if not piece:
-            break
-        read.put_all(_MEANINGS.get(piece[0], piece[0][-1]), at)
-        at = piece.end()
+    value = _VALUE.match(text, start)
+    end, quote = value.end() if value else start, text[start : start + 1] if text[start : start + 1] in ("'", '"') else ""
+    read = flow_text(Scalar(text, start, end + len(quote), start, quote, False, 0))
     query = read.text if quote else read.text.rstrip()
-    return PlacedQuery(query, [*read.offsets, at][: len(query) + 1])
+    return PlacedQuery(query, [*read.offsets, end][: len(query) + 1])
 
 
 def _is_below(text: str, begin: int, offset: int) -> bool:

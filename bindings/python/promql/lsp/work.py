@@ -10,7 +10,7 @@ from ..files import FileError
 from .actions import fix_edits
 from .findings import given_query
 from .folder_rename import changes_in_folders
-from .layout import LeftError, Look, rule_file_edits
+from .layout import LeftError, rule_file_edits
 from .outline import groups_of
 from .rules import file_of, problems_of
 from .settings import Settings
@@ -62,7 +62,7 @@ def _fix(job: Job) -> Any:
 
 _WORK: Dict[str, Callable[[Job], Any]] = {
     READ: lambda job: (*problems_of(job.text, job.settings, job.is_json), groups_of(job.text, job.is_json)),
-    FORMAT: lambda job: rule_file_edits(job.text, job.wanted, Look(job.settings.style, job.settings.width), job.is_json),
+    FORMAT: lambda job: rule_file_edits(job.text, job.wanted, job.settings, job.is_json),
     FIX: _fix,
     RENAME: lambda job: changes_in_folders(job.wanted),
 }
