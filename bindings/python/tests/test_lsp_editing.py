@@ -172,7 +172,8 @@ class Fixes(Editing):
             with self.assertRaises(Refused) as caught:
                 self.client.request("codeAction/resolve", {**action, "data": wrong})
             self.assertEqual(caught.exception.code, messages.INVALID_PARAMS)
-        number = next(it["data"]["number"] for it in self.actions(RULES)) + 1
+        numbers = {it["data"]["number"] for it in self.actions(RULES)}
+        number = min({*range(5)} - numbers)
         for wrong, code in ({"number": 99}, messages.CONTENT_MODIFIED), ({"number": number}, messages.REQUEST_FAILED):
             with self.assertRaises(Refused) as caught:
                 self.client.request("codeAction/resolve", {**action, "data": {**data, **wrong}})
@@ -390,9 +391,9 @@ class Typing(Editing):
 
     def test_labels_of_the_metric(self):
         """They come before all others."""
-        self.open("a{x='1'} + b{y='1'} + c", "file:///other.promql")
-        self.open("sum by (z) (c)", "file:///another.promql")
-        for text, first in ("a{|CURSOR|", "x"), ("b{|CURSOR|", "y"), ("c{|CURSOR|}", "z"), ("sum by (|CURSOR|) (b)", "y"):
+        for name, text in ("x", "a{x='1'}"), ("y", "b{y='1'} / c"), ("z", "sum by (z) (d)"):
+            self.open(text, f"file:///{name}.promql")
+        for text, first in ("a{|CURSOR|", "x"), ("b{|CURSOR|", "y"), ("d{|CURSOR|}", "z"), ("sum by (|CURSOR|) (b)", "y"):
             self.assertEqual(self.labels(text, QUERY)[0], first, text)
 
     def test_anywhere(self):

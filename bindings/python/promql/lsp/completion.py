@@ -19,6 +19,7 @@ _DURATIONS = ("1m", "5m", "10m", "15m", "30m", "1h", "6h", "12h", "1d", "1w")
 _UNITS = ("s", "m", "h", "d", "w", "y", "ms")
 _COMPARISONS = ("==", "!=", "<=", "<", ">=", ">")
 _MATCHING_WORDS = ("on", "ignoring", "group_left", "group_right")
+_NOTHING = Token("", "", 0, 0)
 # A list is not longer than this, and then says that there are more.
 MOST_ITEMS = 500
 
@@ -47,7 +48,9 @@ def complete(text: str, offset: int, knows: Callable[[str, str], Known]) -> Opti
     if context is None:
         return None
     word, last, inner = context.word, context.previous(), context.inner
-    if last and last.end == offset and last.text[-1].isdigit() and _is_time(context):
+    # (a number in brackets, or after `offset`, belongs to a unit)
+    is_time = inner and inner.kind == BRACKETS or (context.previous(2) or _NOTHING).lower == "offset"
+    if last and last.end == offset and last.text[-1].isdigit() and is_time:
         return Completion(list(_units(last.text)), last.start, offset)
     # (what is being written is no name yet)
     own = names_of(text[: word.start] + text[word.end :] if word else text)
@@ -66,12 +69,6 @@ def _metric(context: Context, own: Names) -> str:
     if inner and inner.kind == LABEL_LIST:
         return own.metrics[0].name if own.metrics else ""
     return inner.head.text if inner and inner.kind == BRACES and inner.head else ""
-
-
-def _is_time(context: Context) -> bool:
-    """Whether a number is one of a duration, to which a unit belongs."""
-    before = context.previous(2)
-    return bool(context.inner and context.inner.kind == BRACKETS or before and before.lower == "offset")
 
 
 def _units(number: str) -> Iterator[Item]:

@@ -8,7 +8,6 @@ from typing import Any, Callable, Dict, List, NamedTuple, Optional
 from ..queries import Edit
 from . import actions, completion, hover, navigation, outline, selection, semantic
 from .documents import Document, Place
-from .folder_rename import Renaming
 from .functions import Function
 from .messages import CONTENT_MODIFIED, INVALID_PARAMS, ProtocolError, member, whole
 from .names import Known, known
@@ -209,7 +208,7 @@ def on_rename(workspace: Workspace, params: Any) -> Any:
     if not metric or not isinstance(new, str):
         raise ProtocolError(INVALID_PARAMS, "there is no metric here")
     changes = navigation.rename(workspace.all, metric.name, new)
-    renaming = Renaming(metric.name, new, workspace.folders, [path_of(document.uri) for document in workspace.all])
+    renaming = navigation.Renaming(metric.name, new, workspace.folders, [path_of(document.uri) for document in workspace.all])
     later = Later(at.document, RENAME, renaming, lambda others: {"changes": {**others, **changes}})
     return later if workspace.folders else later.answer({})
 

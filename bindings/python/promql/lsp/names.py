@@ -23,8 +23,6 @@ class Names(NamedTuple):
     metrics: Tuple[Use, ...]
     labels: Tuple[str, ...]
     values: Tuple[Tuple[str, str], ...]
-    # The metrics of selectors with the labels there.
-    pairs: Tuple[Tuple[str, str], ...]
 
 
 def names_of(text: str) -> Names:
@@ -32,7 +30,6 @@ def names_of(text: str) -> Names:
     metrics: List[Use] = []
     labels = {plain(token) for token in labels_in(code_of(text))}
     values: Set[Tuple[str, str]] = set()
-    pairs: Set[Tuple[str, str]] = set()
     for selector in selectors_of(text):
         if selector.name:
             metrics.append(Use(selector.name.text, selector.name.start, selector.name.end))
@@ -42,17 +39,15 @@ def names_of(text: str) -> Names:
                 metrics.append(Use(value, *string_content(matcher.value)))
             if matcher.name and matcher.sign:
                 labels.add(plain(matcher.name))
-                pairs.update((it.text, plain(matcher.name)) for it in (selector.name,) if it)
                 if value and matcher.sign.text in ("=", "!="):
                     values.add((plain(matcher.name), value))
-    return Names(tuple(metrics), tuple(sorted(labels - {"__name__"})), tuple(sorted(values)), tuple(sorted(pairs)))
+    return Names(tuple(metrics), tuple(sorted(labels - {"__name__"})), tuple(sorted(values)))
 
 
 def names_with(names: Names, is_one: Callable[[str], bool]) -> Names:
     """Those of the names that are some."""
     metrics, labels = (use for use in names.metrics if is_one(use.name)), filter(is_one, names.labels)
-    values, pairs = (tuple(it for it in some if all(map(is_one, it))) for some in (names.values, names.pairs))
-    return Names(tuple(metrics), tuple(labels), values, pairs)
+    return Names(tuple(metrics), tuple(labels), tuple(it for it in names.values if all(map(is_one, it))))
 
 
 class Known(NamedTuple):
@@ -72,12 +67,11 @@ class Known(NamedTuple):
 
 
 def known(names: Iterable[Names], metric: str = "") -> Known:
-    """The names of queries, with the labels that they have for a metric."""
+    """The names of queries; the labels of those with a metric go with it."""
     found = Known(set(), set(), {}, set())
     for each in names:
-        if metric and {use.name for use in each.metrics} == {metric}:
+        if metric and any(use.name == metric for use in each.metrics):
             found.near.update(each.labels)
-        found.near.update(label for name, label in each.pairs if name == metric)
         found.metrics.update(use.name for use in each.metrics)
         found.labels.update(each.labels)
         for label, value in each.values:

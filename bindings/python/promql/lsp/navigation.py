@@ -2,15 +2,21 @@
 
 from __future__ import annotations
 
-from typing import Any, Dict, Iterable, Iterator, List, NamedTuple, Optional, Tuple
+import mmap
+import os
+from pathlib import Path
+from typing import Any, Dict, Iterable, Iterator, List, NamedTuple, Optional, Sequence, Tuple
 
 import promql
 
+from ..files import FileError, read_source
 from ..queries import Edit, edited
-from .documents import Document
+from ..targets import targets_of
+from .documents import TOO_LARGE, Document
+from .layout import LeftError
 from .messages import INVALID_PARAMS, REQUEST_FAILED, ProtocolError
 from .names import names_of
-from .rules import PlacedQuery, read_lines
+from .rules import PlacedQuery, problems_of, read_lines
 
 
 class Named(NamedTuple):
@@ -117,3 +123,43 @@ def _look_at_query(query: PlacedQuery, name: str, new: str) -> None:
         raise ProtocolError(REQUEST_FAILED, f"a query would be rejected with the name {new!r}: {error}") from error
     if not is_right or len(names_of(text).metrics) != len(query.names.metrics):
         raise ProtocolError(REQUEST_FAILED, f"a query would be another one with the name {new!r}")
+
+
+# ---- files that no editor has open
+
+
+class Renaming(NamedTuple):
+    """A metric, its new name, the folders, and the files in them that are open."""
+
+    name: str
+    new: str
+    folders: Sequence[str]
+    opened: Sequence[str]
+
+
+def changes_in_folders(renaming: Renaming) -> Dict[str, Any]:
+    """The edits of each file with the metric, by its URI. Raises where one cannot be read, or would not be read the same."""
+    opened, changes = {os.path.realpath(path) for path in renaming.opened if path}, {}
+    for target in targets_of([it for it in renaming.folders if os.path.isdir(it)], False):
+        path = os.path.realpath(target.name)
+        if not target.left and path not in opened and os.path.isfile(path):
+            opened.add(path)
+            try:
+                changes.update(_changes(path, renaming))
+            except (ProtocolError, FileError, OSError) as error:
+                raise LeftError(f"{path}: {getattr(error, 'strerror', None) or error}") from error
+    return changes
+
+
+def _changes(path: str, renaming: Renaming) -> Dict[str, Any]:
+    if not os.path.getsize(path):
+        return {}
+    with open(path, "rb") as file, mmap.mmap(file.fileno(), 0, access=mmap.ACCESS_READ) as data:
+        if data.find(renaming.name.encode()) < 0:
+            return {}
+    document = Document(Path(path).as_uri(), "", 0, read_source(path).text)
+    rules, problems = (None, [TOO_LARGE]) if document.is_large else problems_of(document.text, is_json=document.is_json)
+    if rules is None and problems:
+        raise FileError(problems[0].message)
+    document.settle(rules or [])
+    return rename([document], renaming.name, renaming.new)

@@ -9,8 +9,8 @@ from typing import IO, Any, Callable, Dict, NamedTuple
 from ..files import FileError
 from .actions import fix_edits
 from .findings import given_query
-from .folder_rename import changes_in_folders
 from .layout import LeftError, rule_file_edits
+from .navigation import changes_in_folders
 from .outline import groups_of
 from .rules import file_of, problems_of
 from .settings import Settings
