@@ -133,7 +133,7 @@ class Fixes(Editing):
         text = 'sum(up{job=~"shop"}) # all\n'
         self.open(text, QUERY)
         one, every = self.actions(text, QUERY)
-        self.assertEqual((one["kind"], every["kind"]), ("quickfix", "source.fixAll"))
+        self.assertEqual((one["kind"], every["kind"]), ("quickfix", "source.fixAll.promql"))
         for action in one, every:
             self.assertEqual(self.made(text, action), text.replace("=~", "="))
         for only, kinds in (["source.fixAll"], 1), (["source.fixAll.promql"], 1), (["refactor"], 0), (["source.organizeImports"], 0):

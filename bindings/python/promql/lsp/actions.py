@@ -12,7 +12,7 @@ from .documents import Document, diagnostic
 from .layout import LeftError
 from .problems import Problem
 
-QUICK_FIX, FIX_ALL = "quickfix", "source.fixAll"
+QUICK_FIX, FIX_ALL = "quickfix", "source.fixAll.promql"
 
 
 def actions(document: Document, span: Tuple[int, int], only: Any) -> Iterator[Dict[str, Any]]:
@@ -27,7 +27,7 @@ def actions(document: Document, span: Tuple[int, int], only: Any) -> Iterator[Di
 
 
 def _is_asked(kind: str, only: Any) -> bool:
-    return not isinstance(only, list) or any(isinstance(it, str) and f"{kind}.promql.".startswith(f"{it}.") for it in only)
+    return not isinstance(only, list) or any(isinstance(it, str) and f"{kind}.".startswith(f"{it}.") for it in only)
 
 
 def _action(document: Document, kind: str, title: str, number: int) -> Dict[str, Any]:
