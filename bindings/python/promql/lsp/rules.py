@@ -157,7 +157,16 @@ def rules_of(file: Union[Dashboard, RuleFile]) -> List[Rule]:
             used += 1
         found.append(_rule(file, node, end, is_whole, own, text))
     found += map(_lone, queries[used:])
-    return found
+    return sorted([*found, *_recorded_in_texts(file)], key=lambda rule: rule.start) if file.texts else found
+
+
+def _recorded_in_texts(file: RuleFile) -> Iterator[Rule]:
+    """What is recorded in files that are texts of this one, without the queries, which are those of this one as well."""
+    for text in file.texts:
+        for rule in rules_of(text.document) if isinstance(text.document, RuleFile) else ():
+            if rule.record:
+                place = text.at(rule.record_start), text.at(rule.record_end)
+                yield Rule(*place, False, rule.record, *place, "", [])
 
 
 def _admitted(file: Union[Dashboard, RuleFile]) -> List[Query]:
