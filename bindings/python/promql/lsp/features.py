@@ -3,11 +3,11 @@
 from __future__ import annotations
 
 import re
-from typing import Any, Callable, Dict, List, NamedTuple, Optional
+from typing import Any, Callable, Dict, Iterator, List, NamedTuple, Optional, Tuple
 
 from ..queries import Edit
-from . import actions, completion, hover, navigation, outline, selection, semantic
-from .documents import Document, Place
+from . import completion, hover, navigation, outline, selection, semantic
+from .documents import Document, Place, diagnostic
 from .functions import Function
 from .messages import CONTENT_MODIFIED, INVALID_PARAMS, ProtocolError, member, whole
 from .names import Known, known
@@ -20,6 +20,8 @@ from .work import FIX, RENAME
 # The words of which all places in a query are shown, and of a text of a server so many characters.
 _WORDS = ("function", "string", "regexp", "variable", "property")
 _LONGEST_HELP = 500
+# The kinds of code actions, whose edits are made when one is chosen.
+_QUICK_FIX, _FIX_ALL = "quickfix", "source.fixAll.promql"
 
 
 class Workspace:
@@ -258,13 +260,32 @@ def on_document_highlight(workspace: Workspace, params: Any) -> Any:
     return [{"range": at.document.range_in(query, it.start, it.end), "kind": 1} for it in same]
 
 
+def _actions(document: Document, span: Tuple[int, int], only: Any) -> Iterator[Dict[str, Any]]:
+    """What may be done in a part of a document, of the kinds that are asked for."""
+    fixable = [(number, it) for number, it in enumerate(document.problems) if it.is_fixable]
+    for number, it in fixable if _is_asked(_QUICK_FIX, only) else ():
+        if it.start <= span[1] and span[0] <= it.end:
+            found = _action(document, _QUICK_FIX, f"Fix {it.code}: {it.message}", number)
+            yield {**found, "diagnostics": [diagnostic(document, it)], "isPreferred": True}
+    if fixable and _is_asked(_FIX_ALL, only):
+        yield _action(document, _FIX_ALL, "Fix all that the linter has a fix for", -1)
+
+
+def _is_asked(kind: str, only: Any) -> bool:
+    return not isinstance(only, list) or any(isinstance(it, str) and f"{kind}.".startswith(f"{it}.") for it in only)
+
+
+def _action(document: Document, kind: str, title: str, number: int) -> Dict[str, Any]:
+    return {"title": title, "kind": kind, "data": {"uri": document.uri, "version": document.version, "number": number}}
+
+
 def on_code_action(workspace: Workspace, params: Any) -> Any:
     document = workspace.document(params)
     if not document.is_told:
         raise ProtocolError(CONTENT_MODIFIED, "the document is not read yet")
     span = document.lines.span(params.get("range"))
     # (an editor that never asks for edits would do nothing)
-    return list(actions.actions(document, span, member(params, "context", "only"))) if workspace.resolves else []
+    return list(_actions(document, span, member(params, "context", "only"))) if workspace.resolves else []
 
 
 def on_resolve(workspace: Workspace, params: Any) -> Any:
@@ -314,6 +335,6 @@ CAPABILITIES = {
     "documentSymbolProvider": True,
     "foldingRangeProvider": True,
     "documentHighlightProvider": True,
-    "codeActionProvider": {"codeActionKinds": [actions.QUICK_FIX, actions.FIX_ALL], "resolveProvider": True},
+    "codeActionProvider": {"codeActionKinds": [_QUICK_FIX, _FIX_ALL], "resolveProvider": True},
     "semanticTokensProvider": {"legend": {"tokenTypes": TYPES, "tokenModifiers": []}, "full": True, "range": True},
 }

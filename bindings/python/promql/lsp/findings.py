@@ -1,18 +1,19 @@
-"""Findings of the linter as problems of a document."""
+"""Findings of the linter as problems of a document, and their fixes."""
 
 from __future__ import annotations
 
 from functools import lru_cache
 from pathlib import Path
-from typing import List
+from typing import List, Optional
 
 from ..checked_queries import QueryChecker
 from ..documents import Document
-from ..files import Source
+from ..files import FileError, Source
 from ..lint.file_findings import FileLinter
 from ..lint.findings import Severity
 from ..lint.given_queries import GivenQuery
 from ..lint.table import RULES, Selection
+from ..queries import Edit
 from .problems import INFORMATION, WARNING, Problem
 
 _SEVERITIES = {Severity.ERROR: WARNING, Severity.WARNING: WARNING, Severity.INFO: INFORMATION}
@@ -25,6 +26,18 @@ def lint_problems(file: Document, selection: Selection) -> List[Problem]:
     for start, end, finding, *_ in linter.findings():
         found.append(Problem(start, end, _SEVERITIES[finding.severity], finding.message, finding.code, finding.fix is not None))
     return found + [Problem(it.start, it.end, WARNING, it.message) for it in linter.left]
+
+
+def fix_edits(file: Document, selection: Selection, wanted: Optional[Problem]) -> List[Edit]:
+    """The edits of a file that make the fix of a finding, or all fixes, after which it is read as it is to be."""
+    linter = FileLinter(file, selection)
+    if not wanted:
+        linter.fixed()
+        return linter.fixed_edits
+    for found in linter.findings():
+        if found.finding.fix and (found.start, found.end, found.finding.code) == (wanted.start, wanted.end, wanted.code):
+            return linter.edits_of(found)
+    raise FileError("left as it is: there is no such fix any more")
 
 
 def given_query(text: str) -> GivenQuery:

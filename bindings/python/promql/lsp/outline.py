@@ -2,13 +2,12 @@
 
 from __future__ import annotations
 
-from typing import TYPE_CHECKING, Any, Dict, Iterator, List, NamedTuple, Optional, Tuple
+from typing import TYPE_CHECKING, Any, Dict, Iterator, List, NamedTuple, Optional, Tuple, Union
 
 from ..dashboards import Dashboard
-from ..files import FileError
 from ..rule_documents import Kind
 from ..rule_files import RuleFile
-from .rules import Rule, end_of, file_of
+from .rules import Rule, end_of
 
 if TYPE_CHECKING:
     from .documents import Document
@@ -30,12 +29,8 @@ class Group(NamedTuple):
         return Group(self.name, *(at + by if at >= after else at for at in self[1:]))
 
 
-def groups_of(text: str, is_json: bool) -> List[Group]:
-    try:
-        file = file_of(text, is_json)
-        return [Group(*panel) for panel in file.panels()] if isinstance(file, Dashboard) else list(_groups(file))
-    except (FileError, RecursionError):
-        return []
+def groups_of(file: Union[Dashboard, RuleFile]) -> List[Group]:
+    return [Group(*panel) for panel in file.panels()] if isinstance(file, Dashboard) else list(_groups(file))
 
 
 def _groups(file: RuleFile) -> Iterator[Group]:

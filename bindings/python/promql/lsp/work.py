@@ -7,8 +7,7 @@ import struct
 from typing import IO, Any, Callable, Dict, NamedTuple
 
 from ..files import FileError
-from .actions import fix_edits
-from .findings import given_query
+from .findings import fix_edits, given_query
 from .layout import LeftError, rule_file_edits
 from .navigation import changes_in_folders
 from .outline import groups_of
@@ -55,13 +54,19 @@ def receive(stream: IO[bytes]) -> Any:
     return pickle.loads(data)
 
 
+def _read(job: Job) -> Any:
+    rules, problems = problems_of(job.text, job.settings, job.is_json)
+    # (what cannot be read is not read again for its groups)
+    return rules, problems, groups_of(file_of(job.text, job.is_json)) if rules else []
+
+
 def _fix(job: Job) -> Any:
     file = given_query(job.text) if job.is_query else file_of(job.text, job.is_json)
     return fix_edits(file, job.settings.selection, job.wanted)
 
 
 _WORK: Dict[str, Callable[[Job], Any]] = {
-    READ: lambda job: (*problems_of(job.text, job.settings, job.is_json), groups_of(job.text, job.is_json)),
+    READ: _read,
     FORMAT: lambda job: rule_file_edits(job.text, job.wanted, job.settings, job.is_json),
     FIX: _fix,
     RENAME: lambda job: changes_in_folders(job.wanted),
