@@ -65,6 +65,11 @@ class Typist:
             time.sleep(0.03)
         return found
 
+    def processor_time(self):
+        """The seconds of a processor that the server took till now, without its helper: they grow little on a busy machine."""
+        fields = Path(f"/proc/{self.client.process.pid}/stat").read_text().rpartition(")")[2].split()
+        return (int(fields[11]) + int(fields[12])) / os.sysconf("SC_CLK_TCK")
+
     def messages_after(self):
         """How long it takes from a last key till its messages."""
         for key in "a + 1":
@@ -82,9 +87,11 @@ def main():
     checks, typist = Checks(), Typist()
     print(f"load {os.getloadavg()[0]:.1f} on {os.cpu_count()} processors; first read {typist.first_read * 1000:.0f} ms")
     for method in REQUESTS:
+        begin = typist.processor_time()
         times = sorted(typist.times(method, keys))
         median, most = statistics.median(times), times[int(len(times) * 0.95) - 1]
-        print(f"{method}: median {median * 1000:.1f} ms, 95 of 100 within {most * 1000:.1f} ms")
+        mean = (typist.processor_time() - begin) / keys
+        print(f"{method}: median {median * 1000:.1f} ms, 95 of 100 within {most * 1000:.1f} ms; {mean * 1000:.1f} ms of a processor")
         checks.check(not has_bounds or median < MEDIAN and most < MOST, f"{method} takes longer")
     times = [typist.messages_after() for _ in range(10)]
     print(f"messages after the last key: median {statistics.median(times) * 1000:.0f} ms, at most {max(times) * 1000:.0f} ms")
