@@ -4,6 +4,7 @@ the settings of a team."""
 import json
 import os
 import shutil
+import sys
 import tempfile
 import threading
 import time
@@ -26,6 +27,9 @@ except ImportError as error:
 
 HERE = Path(__file__).resolve().parent
 ROOT = HERE.parents[2]
+sys.path.append(str(ROOT / "bindings"))
+import lsp_files  # noqa: E402
+
 URI, BOARD, QUERY = "file:///rules.yml", "file:///board.json", "file:///query.promql"
 RULES = """\
 groups:
@@ -382,6 +386,19 @@ class Typing(Editing):
         hover = self.begin + "'rate(" + self.end
         self.open(hover)
         self.assertIn("How fast", self.at("hover", hover, hover.index("rate") + 1)["contents"]["value"])
+
+    def test_open_quote_in_a_large_file(self):
+        """A key waits for no reading of the file."""
+        text = lsp_files.rule_file(400) + self.begin[self.begin.index("  - record") :] + "\n"
+        self.open(text)
+        at = len(text) - 1
+        self.client.change(URI, next(self.versions), {"range": Lines(text).range(at, at), "text": "'sum(rat"})
+        version = next(self.versions)
+        text = text[:at] + "'sum(rate\n"
+        self.client.change(URI, version, {"range": Lines(text).range(at + 8, at + 8), "text": "e"})
+        self.assertIn("rate", [it["label"] for it in self.at("completion", text, at + 9)["items"]])
+        self.assertNotEqual(self.client.diagnostics[URI][0], version)
+        self.client.wait_for_diagnostics(URI, version)
 
     def test_units(self):
         for text, wanted, unwanted in (

@@ -96,14 +96,14 @@ def uri_of(params: Any) -> str:
     return uri
 
 
-def _at(workspace: Workspace, params: Any) -> At:
+def where(workspace: Workspace, params: Any) -> At:
     document = workspace.document(params)
     offset = document.lines.offset(params.get("position"))
     return At(document, offset, document.place(offset))
 
 
 def on_hover(workspace: Workspace, params: Any) -> Any:
-    at = _at(workspace, params)
+    at = where(workspace, params)
     found = hover.hover(at.place.query.text, at.place.at) if at.place else None
     if not found or not at.place:
         return None
@@ -128,7 +128,7 @@ def _plain(text: str) -> str:
 
 
 def on_completion(workspace: Workspace, params: Any) -> Any:
-    at = _at(workspace, params)
+    at = where(workspace, params)
     if not at.place:
         return None
     query, text = at.place.query, at.place.query.text
@@ -150,7 +150,7 @@ def _goes_on(label: str, word: str) -> bool:
 
 
 def on_signature_help(workspace: Workspace, params: Any) -> Any:
-    at = _at(workspace, params)
+    at = where(workspace, params)
     found = hover.signature(at.place.query.text, at.place.at) if at.place else None
     if not found:
         return None
@@ -177,7 +177,7 @@ def _parameter_spans(function: Function) -> List[List[int]]:
 
 
 def on_definition(workspace: Workspace, params: Any) -> Any:
-    at = _at(workspace, params)
+    at = where(workspace, params)
     metric = navigation.metric_at(at.document, at.offset)
     if not metric:
         return None
@@ -185,7 +185,7 @@ def on_definition(workspace: Workspace, params: Any) -> Any:
 
 
 def on_references(workspace: Workspace, params: Any) -> Any:
-    at = _at(workspace, params)
+    at = where(workspace, params)
     metric = navigation.metric_at(at.document, at.offset)
     if not metric:
         return None
@@ -196,7 +196,7 @@ def on_references(workspace: Workspace, params: Any) -> Any:
 
 
 def on_prepare_rename(workspace: Workspace, params: Any) -> Any:
-    at = _at(workspace, params)
+    at = where(workspace, params)
     metric = navigation.metric_at(at.document, at.offset)
     if not metric:
         return None
@@ -204,7 +204,7 @@ def on_prepare_rename(workspace: Workspace, params: Any) -> Any:
 
 
 def on_rename(workspace: Workspace, params: Any) -> Any:
-    at = _at(workspace, params)
+    at = where(workspace, params)
     new = params.get("newName")
     metric = navigation.metric_at(at.document, at.offset)
     if not metric or not isinstance(new, str):
@@ -246,7 +246,7 @@ def on_semantic_tokens(workspace: Workspace, params: Any) -> Any:
 
 def on_document_highlight(workspace: Workspace, params: Any) -> Any:
     """The places of a metric in the document, written or read; of any other word those in the query."""
-    at = _at(workspace, params)
+    at = where(workspace, params)
     metric = navigation.metric_at(at.document, at.offset)
     if metric:
         places = [(it, kind) for kind, find in ((3, navigation.records), (2, navigation.uses)) for it in find([at.document], metric.name)]

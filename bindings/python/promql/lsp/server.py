@@ -15,7 +15,7 @@ import promql
 from ..files import FileError
 from ..queries import Edit
 from .documents import TOO_LARGE, Document, diagnostics, query_problems
-from .features import ABOUT_ALL, ABOUT_PLACES, CAPABILITIES, Asking, Later, Workspace, text_edits, uri_of
+from .features import ABOUT_ALL, ABOUT_PLACES, CAPABILITIES, Asking, Later, Workspace, text_edits, uri_of, where
 from .helper import Helper
 from .layout import LeftError, lines_edits, node_edits, query_edits
 from .messages import CONTENT_MODIFIED, INTERNAL_ERROR, INVALID_PARAMS, INVALID_REQUEST, METHOD_NOT_FOUND
@@ -34,6 +34,8 @@ PATIENCE = 2.0
 _PATIENCE_WITH_SERVER = 0.3
 _MOST_WAITING = 1_000
 _CODE_ACTION = "textDocument/codeAction"
+# What is answered at once, where the query is known of which the rest of the file is not read.
+_WHILE_TYPING = ("textDocument/completion", "textDocument/signatureHelp")
 _FORMATTINGS = ("textDocument/formatting", "textDocument/rangeFormatting")
 
 
@@ -407,6 +409,8 @@ class Server:
             return False
         try:
             documents = self._workspace.all if method in ABOUT_ALL else [self._workspace.document(message.get("params"))]
+            if method in _WHILE_TYPING and documents[0].rules and where(self._workspace, message.get("params")).place:
+                return False
         except ProtocolError:
             return False
         return not all(document.is_told if method == _CODE_ACTION else document.is_settled for document in documents)
