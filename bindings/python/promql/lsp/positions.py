@@ -21,6 +21,8 @@ class Lines:
         self._index = LineIndex(text)
         # (most texts have no character of two units, and then units are characters)
         self._is_narrow = text.isascii() or not _WIDE.search(text)
+        # (and without carriage returns no place is within a line's end)
+        self._is_plain = self._is_narrow and "\r" not in text
 
     def line_begin(self, offset: int) -> int:
         """Where the line of a character begins."""
@@ -30,7 +32,7 @@ class Lines:
         """The line of a character, and the UTF-16 units before it there."""
         offset = min(max(offset, 0), len(self.text))
         begin = self._index.begin(offset)
-        end = self._index.end(begin, offset)
+        end = offset if self._is_plain else self._index.end(begin, offset)
         return self._index.line(offset), end - begin if self._is_narrow else units(self.text[begin:end])
 
     def position(self, offset: int) -> Dict[str, int]:
