@@ -21,8 +21,8 @@ from checks import Checks  # noqa: E402
 
 GUIDE = ROOT / "docs/guide/editor.md"
 PATIENCE = 5
-# The greatest median of the times of a request, in milliseconds.
-MOST = 50
+# The greatest median of the times of a request, in milliseconds; a rename waits for the folder to be read, and for what is read before.
+MOST, MOST_OF_FOLDER = 50, 2_000
 ROUNDS = 3
 RULES = """\
 groups:
@@ -36,6 +36,13 @@ groups:
     for: 5m
 """
 QUERY = "job:errors:rate5m / 2\n"
+BOARD = """\
+{
+  "panels": [
+    { "title": "Errors", "targets": [{ "expr": "sum(job:errors:rate5m{zone=~\\"west\\"})by(job)" }] }
+  ]
+}
+"""
 
 checks = Checks()
 
@@ -237,13 +244,20 @@ def completed(editor, text, keys):
 
 def test_completion(editor):
     editor.edit("rules.yml", RULES)
+    ready(editor)
+    # (this waits till the file is read)
+    editor.asked("textDocument/documentSymbol", "{}")
     found = completed(editor, "up\n", " + ra")
     check("completion of functions", found, lambda it: "rate" in it and "sum" not in it)
     editor.keys("<C-n><C-n><Esc>")
     check("what is chosen is written", editor.text(), lambda it: it.startswith("up + ") and it != "up + ra\n")
     check("completion of keywords", completed(editor, "up\n", " "), lambda it: "unless" in it and "rate" not in it)
     editor.keys("<Esc>")
-    check("completion of metrics", completed(editor, "", "job"), lambda it: "job:errors:rate5m" in it)
+    # (what alone goes on is written at once)
+    editor.edit("complete.promql", "")
+    ready(editor)
+    editor.keys("Ajob<C-x><C-o>")
+    check("completion of metrics", editor.wait("the name", editor.text, lambda it: "rate5m" in it), "job:errors:rate5m\n")
     editor.keys("<Esc>")
     check("completion of labels", completed(editor, "", "errors_total{"), lambda it: "zone" in it and "rate" not in it)
     editor.keys("<Esc>")
@@ -251,6 +265,17 @@ def test_completion(editor):
     editor.keys("<Esc>")
     check("completion of durations", completed(editor, "", "errors_total["), lambda it: "5m" in it)
     editor.keys("<Esc>")
+    check("completion of units", completed(editor, "", "errors_total[5"), lambda it: "5m" in it and "rate" not in it)
+    editor.keys("<Esc>")
+    check("half a word is not completed with itself", completed(editor, "", "errors"), lambda it: "errors" not in it and "errors_total" in it)
+    editor.keys("<Esc>")
+    for after, keys in ("expr: |-\n        ", "sum(err"), ("expr: ", "sum(err"), ("expr: ", "'sum(err"):
+        editor.edit("written.yml", RULES + "  - record: new\n    " + after + "\n")
+        ready(editor)
+        editor.keys(f"G$A{keys}<C-x><C-o>")
+        words = "local found = {} for _, it in ipairs(vim.fn.complete_info({'items'}).items) do table.insert(found, it.word) end return found"
+        check(f"completion of {after + keys!r}", editor.wait_lua(words, bool), lambda it: "errors_total" in it)
+        editor.keys("<Esc>")
 
 
 def test_navigation(editor):
@@ -274,6 +299,58 @@ def test_navigation(editor):
     check("rename in a rule file", found, RULES.replace("job:errors", "job:faults"))
     editor.keys(":write<CR>:buffer query.promql<CR>")
     check("rename in another file", editor.wait("the other file", editor.text, lambda it: "/ 2" in it), QUERY.replace("errors", "faults"))
+
+
+def test_fixes(editor):
+    """Code actions, by the menu that asks which one: the first one is chosen, and then the last."""
+    text = RULES.replace('zone="west"', 'zone=~"west"')
+    for choice in 1, "#actions":
+        editor.edit(f"fix{choice == 1}.yml", text)
+        editor.wait("a diagnostic", editor.diagnostics, lambda it: any("pattern" in str(found[4]) for found in it))
+        editor.put_cursor("zone")
+        editor.lua(f"vim.ui.select = function(actions, _, choose) choose(actions[{choice}]) end vim.lsp.buf.code_action()")
+        check(f"the fix {choice}", editor.wait("the fix", editor.text, lambda it: it == RULES), RULES)
+    editor.edit("fix.json", BOARD)
+    editor.wait("a diagnostic", editor.diagnostics, bool)
+    editor.put_cursor("zone")
+    editor.lua("vim.ui.select = function(actions, _, choose) choose(actions[1]) end vim.lsp.buf.code_action()")
+    fixed = BOARD.replace("=~", "=")
+    check("a fix in a dashboard", editor.wait("the fix", editor.text, lambda it: it == fixed), fixed)
+    editor.lua("vim.lsp.buf.formatting_sync(nil, 20000)")
+    check("a dashboard is formatted", editor.text(), lambda it: '"sum by (job) (job:errors' in it)
+
+
+def test_outline(editor):
+    editor.edit("rules.yml", RULES)
+    ready(editor)
+    editor.lua("vim.lsp.buf.document_symbol()")
+    listed = "local found = {} for _, it in ipairs(vim.fn.getloclist(0)) do table.insert(found, it.text) end"
+    listed += " for _, it in ipairs(vim.fn.getqflist()) do table.insert(found, it.text) end return found"
+    wanted = ["[Namespace] shop", "[Variable] job:errors:rate5m", "[Event] Errors"]
+    check("symbols", editor.wait_lua(listed, lambda it: len(it) >= 3), wanted)
+    editor.keys(":cclose<CR>:lclose<CR>")
+    editor.put_cursor("errors:rate5m")
+    editor.lua("vim.lsp.buf.document_highlight()")
+    marks = "return #vim.api.nvim_buf_get_extmarks(0, vim.api.nvim_create_namespace('vim_lsp_references'), 0, -1, {})"
+    check("highlights", editor.wait_lua(marks, bool), 2)
+    editor.lua("vim.lsp.buf.clear_references()")
+    found = editor.asked("textDocument/foldingRange", "{}")
+    check("folds", [(it["startLine"], it["endLine"]) for it in found], [(1, 8), (3, 5), (6, 8)])
+
+
+def test_folder(editor):
+    """A name changes in files of the folder that are not open."""
+    for name, text in ("other.yml", RULES), ("board.json", BOARD):
+        (editor.folder / name).write_text(text, encoding="utf-8")
+    editor.edit("query.promql", QUERY)
+    ready(editor)
+    editor.put_cursor("errors")
+    editor.lua("vim.lsp.buf.rename('job:faults:rate5m')")
+    check("rename here", editor.wait("the new name", editor.text, lambda it: "faults" in it), QUERY.replace("errors", "faults"))
+    editor.keys(":wall<CR>")
+    for name, text in ("other.yml", RULES), ("board.json", BOARD):
+        read = lambda: (editor.folder / name).read_text(encoding="utf-8")  # noqa: E731
+        check(f"rename in {name}", editor.wait("the file", read, lambda it: "faults" in it), text.replace("job:errors", "job:faults"))
 
 
 def test_requests(editor):
@@ -325,6 +402,9 @@ def test_times(editor, shows):
         "selectionRange": f"{{positions = {{{place.partition(' = ')[2]}}}}}",
         "semanticTokens/range": f"{{{whole}}}",
         "semanticTokens/full": "{}",
+        "documentSymbol": "{}",
+        "foldingRange": "{}",
+        "documentHighlight": f"{{{place}}}",
         "rangeFormatting": f"{{{whole.replace(str(line + 40), str(line + 1))}, options = {{tabSize = 2, insertSpaces = true}}}}",
     }
     for name, params in requests.items():
@@ -333,11 +413,12 @@ def test_times(editor, shows):
             for _ in range(ROUNDS):
                 times = timed(editor, f"textDocument/{name}", params, before)
                 median = statistics.median(times)
-                if median < MOST:
+                most = MOST_OF_FOLDER if name == "rename" else MOST
+                if median < most:
                     break
             if shows:
                 print(f"{name}{after}: median {median:.1f} ms, greatest {max(times):.1f} ms")
-            check(f"{name}{after}: {median:.1f} ms", median < MOST, True)
+            check(f"{name}{after}: {median:.1f} ms", median < most, True)
     times = timed(editor, "textDocument/formatting", "{options = {tabSize = 2, insertSpaces = true}}")
     if shows:
         print(f"formatting: median {statistics.median(times):.1f} ms, greatest {max(times):.1f} ms")
@@ -347,7 +428,8 @@ def main():
     with tempfile.TemporaryDirectory() as folder:
         editor = Editor(folder)
         try:
-            for test in test_diagnostics, test_layout, test_telling, test_completion, test_navigation, test_requests:
+            tests = test_diagnostics, test_layout, test_telling, test_completion, test_navigation, test_fixes, test_outline, test_folder
+            for test in (*tests, test_requests):
                 test(editor)
                 editor.keys("<Esc>:%bwipeout!<CR>")
             test_times(editor, "--times" in sys.argv[1:])

@@ -33,7 +33,8 @@ class LanguageClient {
     this.process.stdout.on("data", (data) => this.read(data));
     this.diagnostics = new Promise((resolve) => (this.onDiagnostics = resolve));
     const { initializationOptions } = this.options;
-    this.server = await this.ask("initialize", { processId: process.pid, rootUri: null, capabilities: {}, initializationOptions });
+    const capabilities = { textDocument: { codeAction: { resolveSupport: { properties: ["edit"] } } } };
+    this.server = await this.ask("initialize", { processId: process.pid, rootUri: null, capabilities, initializationOptions });
     this.tell("initialized", {});
   }
 
@@ -53,7 +54,7 @@ class LanguageClient {
       if (this.text.length < head + 4 + length) return;
       const message = JSON.parse(this.text.subarray(head + 4, head + 4 + length));
       this.text = this.text.subarray(head + 4 + length);
-      if (message.method === "textDocument/publishDiagnostics") this.onDiagnostics(message.params.diagnostics);
+      if (message.method === "textDocument/publishDiagnostics") this.onDiagnostics(message.params.diagnostics, message.params.uri);
       if (!message.method) this.answers.get(message.id)(message.result);
     }
   }
@@ -78,6 +79,23 @@ const standIns = { vscode, "vscode-languageclient/node": { LanguageClient } };
 const load = Module._load;
 Module._load = (name, ...rest) => standIns[name] || load(name, ...rest);
 
+// A dashboard has its messages, an outline, and the fixes that are made when a file is saved (`source.fixAll`).
+async function testDashboard(client) {
+  const textDocument = { uri: "file:///board.json" };
+  const text = '{"panels": [{"title": "Up", "targets": [{"expr": "sum(up{job=~\\"shop\\"})"}]}]}\n';
+  const told = new Promise((resolve) => (client.onDiagnostics = (found, uri) => uri === textDocument.uri && resolve(found)));
+  client.tell("textDocument/didOpen", { textDocument: { ...textDocument, languageId: "json", version: 1, text } });
+  const found = await told;
+  check("a finding in a dashboard", found.some((it) => it.code === "P103"), found);
+  const symbols = await client.ask("textDocument/documentSymbol", { textDocument });
+  check("an outline", symbols.map((it) => it.name).join() === "Up", symbols);
+  const range = { start: { line: 0, character: 0 }, end: { line: 1, character: 0 } };
+  const [action] = await client.ask("textDocument/codeAction", { textDocument, range, context: { diagnostics: [], only: ["source.fixAll"] } });
+  const { edit } = await client.ask("codeAction/resolve", action);
+  const [{ range: place, newText }] = edit.changes[textDocument.uri];
+  check("a fix", text.slice(0, place.start.character) + newText + text.slice(place.end.character) === text.replace("=~", "="), edit);
+}
+
 async function main() {
   const { activate, deactivate } = require(path.join(extension, manifest.main));
   await activate();
@@ -93,6 +111,7 @@ async function main() {
   client.tell("textDocument/didChange", { textDocument: { ...textDocument, version: 2 }, contentChanges: [{ text }] });
   const edits = await client.ask("textDocument/formatting", { textDocument, options: { tabSize: 2, insertSpaces: true } });
   check("a layout", edits.map((it) => it.newText).join("").trim() === "sum by (job) (rate(up[5m]))", edits);
+  await testDashboard(client);
   await deactivate();
   check("the server's end", client.status === 0, client.status);
   console.log(`${counts.passed} passed, ${counts.failed} failed`);

@@ -1,4 +1,4 @@
-// Starts the language server for queries and rule files (docs/guide/editor.md).
+// Starts the language server for queries, rule files and dashboards (docs/guide/editor.md).
 "use strict";
 
 const { workspace } = require("vscode");
@@ -9,7 +9,7 @@ let client;
 async function activate() {
   const settings = workspace.getConfiguration("promql");
   const [command, ...args] = settings.get("command");
-  const documentSelector = [{ language: "promql" }, { language: "yaml" }];
+  const documentSelector = [{ language: "promql" }, { language: "yaml" }, { language: "json" }];
   const initializationOptions = { lint: settings.get("lint"), style: settings.get("style") };
   client = new LanguageClient("promql", "PromQL", { command, args }, { documentSelector, initializationOptions });
   await client.start();

@@ -80,6 +80,17 @@ def source_of(document: Any, path: JsonPath) -> str:
     return ""
 
 
+def owner_of(document: Any, path: JsonPath) -> Tuple[JsonPath, str]:
+    """The innermost thing around a query that has a title or a name, such as its panel, and that."""
+    found: Tuple[JsonPath, str] = ((), "")
+    for length, step in enumerate(path[:-1], 1):
+        document = value_at(document, (step,))
+        title = (document.get("title") or document.get("name")) if isinstance(document, dict) else None
+        if isinstance(title, str):
+            found = path[:length], title
+    return found
+
+
 def _kinds(key: Any, value: Dict[str, Any]) -> Tuple[Any, ...]:
     source = value.get("datasource")
     kind = source.get("type") if isinstance(source, dict) else None

@@ -6,11 +6,12 @@ import json
 import re
 import sys
 from array import array
-from itertools import islice
+from itertools import groupby, islice
+from operator import itemgetter
 from typing import Any, Iterator, List, Mapping, NamedTuple, Optional, Tuple
 
 from .checked_queries import Budget, QueryChecker
-from .dashboard_places import JsonPath, is_of_prometheus, is_query, is_variable, query_of_variable, source_of, value_at
+from .dashboard_places import JsonPath, is_of_prometheus, is_query, is_variable, owner_of, query_of_variable, source_of, value_at
 from .files import BLANKS, BoundError, Fault, FileError, Source, counted, nested_too_deeply
 from .grafana_variables import MOST_TEXTS, VARIABLE, read_variables
 from .queries import Edit, PlacedText, Query, SameQuery
@@ -64,6 +65,7 @@ class Dashboard:
         self.notes: List[Fault] = []
         self.unread: List[Fault] = []
         self._document = _load(source)
+        self._paths: List[JsonPath] = []
         self.queries = list(self._read_queries(variables or {}))
         self.is_known = bool(self.queries)
 
@@ -93,7 +95,15 @@ class Dashboard:
             part = query_of_variable(value) if is_variable_text else (0, len(value))
             if part:
                 string = JsonString(self.source.text, start, start + len(token), value[: part[0]], value[part[1] :])
+                self._paths.append(path)
                 yield self._query(string, variables, self._why_skipped(path, value))
+
+    def panels(self) -> Iterator[Tuple[str, int, int]]:
+        """What has a title or a name around queries, such as a panel: that, and where its first query begins and its last one ends."""
+        owned = [(owner_of(self._document, path), query) for path, query in zip(self._paths, self.queries)]
+        for (_, title), group in groupby(owned, itemgetter(0)):
+            queries = [query for _, query in group]
+            yield title, queries[0].offsets[0], queries[-1].offsets[-1]
 
     def _is_query_variable(self, path: JsonPath) -> bool:
         """Whether this is what a variable asks for, and not the list of its values or the like."""

@@ -120,27 +120,34 @@ def _read(
     """The document of a file; nothing for a file of a folder that surely is none."""
     source = read_source(target.name)
     try:
-        if not is_dashboard and not target.is_json:
-            return RuleFile(source, checker)
-        if target.is_found and not may_have_queries(source.text):
+        if target.is_found and (is_dashboard or target.is_json) and not may_have_queries(source.text):
             return None
-        board = Dashboard(source, variables, checker)
-        if not board.queries and board.unread and not is_dashboard:
-            # (JSON is YAML, too, and some write their rules so)
-            try:
-                file = RuleFile(source, checker)
-            except NoReaderError:
-                if "rules" in source.text:
-                    raise
-                return board
-            return file if file.queries else board
-        return board
+        return document_of(source, is_dashboard, target.is_json, variables, checker)
     except BoundError:
         raise
     except RecursionError as error:
         raise NotReadError(source, nested_too_deeply(target.name)) from error
     except FileError as error:
         raise NotReadError(source, error) from error
+
+
+def document_of(
+    source: Source, is_dashboard: bool, is_json: bool, variables: Optional[Mapping[str, str]], checker: QueryChecker
+) -> Union[Dashboard, RuleFile]:
+    """The document that a text is."""
+    if not is_dashboard and not is_json:
+        return RuleFile(source, checker)
+    board = Dashboard(source, variables, checker)
+    if board.queries or not board.unread or is_dashboard:
+        return board
+    # (JSON is YAML, too, and some write their rules so)
+    try:
+        file = RuleFile(source, checker)
+    except NoReaderError:
+        if "rules" in source.text:
+            raise
+        return board
+    return file if file.queries else board
 
 
 class NotReadError(FileError):

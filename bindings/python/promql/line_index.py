@@ -40,10 +40,10 @@ class LineIndex:
 
     def end(self, offset: int, most: int) -> int:
         """Where the line of a character ends, or `most`, where that comes first."""
-        found = [self._text.find("\n", offset, most)]
-        if self._has_returns:
-            found.append(self._text.find("\r", offset, most))
-        return min((at for at in found if at >= 0), default=min(most, len(self._text)))
+        found = self._text.find("\n", offset, most)
+        end = found if found >= 0 else min(most, len(self._text))
+        found = self._text.find("\r", offset, end) if self._has_returns else -1
+        return found if found >= 0 else end
 
     def place(self, offset: int) -> Tuple[int, int]:
         """The line and the column of a character, from 1."""

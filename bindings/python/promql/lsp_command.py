@@ -7,7 +7,7 @@ import os
 import sys
 from typing import TYPE_CHECKING, Any, Optional
 
-from .options import PEOPLE, STYLES, add_target
+from .options import STYLES, add_target
 
 if TYPE_CHECKING:
     from .lsp.prometheus import Prometheus
@@ -21,7 +21,7 @@ def add_parser(subparsers: Any) -> None:
         metavar="URL",
         help="complete the names of metrics and labels of a Prometheus on this machine, too",
     )
-    parser.add_argument("--style", choices=STYLES, default=PEOPLE, help="how queries of rule files are laid out (people)")
+    parser.add_argument("--style", choices=STYLES, default="", help="how queries of files are laid out (people, or what settings say)")
     add_target(parser)
     parser.add_argument("--no-lint", action="store_true", help="show no findings of the linter")
     parser.add_argument("--stdio", action="store_true", help="the only way, which some editors ask for")

@@ -47,7 +47,7 @@ class Scalar(NamedTuple):
 
     def offsets(self, value: str) -> Optional[array[int]]:
         """The place of each character of this value, and of its end; or nothing, where it is read as another value here."""
-        reading = _block_of(self, value) if self.is_block() else _flow(self)
+        reading = _block_of(self, value) if self.is_block() else flow_text(self)
         return reading.offsets + array("L", [self._content_end()]) if reading and reading.text == value else None
 
     def room(self, width: int) -> int:
@@ -112,7 +112,7 @@ class Scalar(NamedTuple):
         return line_end.join([style + indentation + chomping + rest, *lines])
 
 
-def _flow(scalar: Scalar) -> PlacedText:
+def flow_text(scalar: Scalar) -> PlacedText:
     """What a scalar says that is no block: line ends are folded."""
     quotes = len(scalar.style)
     source, at, end, text = scalar.source, scalar.start + quotes, scalar.end - quotes, PlacedText()

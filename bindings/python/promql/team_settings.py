@@ -94,7 +94,7 @@ class TeamSettings(NamedTuple):
 def with_settings(arguments: argparse.Namespace, target: Target) -> Tuple[argparse.Namespace, TeamSettings]:
     """The options as the settings for a file complete them. Sets the limits of a query, too."""
     is_file = target.query is None and target.name != "-"
-    settings = _read(arguments.config) if arguments.config is not None else _found(os.path.dirname(os.path.abspath(target.name)) if is_file else os.getcwd())
+    settings = _read(arguments.config) if arguments.config is not None else _found(_folder_of(target.name) if is_file else os.getcwd())
     table = settings.table
     merged = argparse.Namespace(**vars(arguments))
     bounds = {key.replace("-", "_"): value for key, value in table.get("limits", {}).items()}
@@ -114,6 +114,17 @@ def with_settings(arguments: argparse.Namespace, target: Target) -> Tuple[argpar
         merged.select = [tuple(table["select"])] if table.get("select") else []
     _limit(bounds)
     return merged, settings
+
+
+def settings_of(name: str) -> TeamSettings:
+    """The settings for a file, which are read anew."""
+    _found.cache_clear()
+    _read.cache_clear()
+    return _found(_folder_of(name))
+
+
+def _folder_of(name: str) -> str:
+    return os.path.dirname(os.path.abspath(name))
 
 
 @contextmanager

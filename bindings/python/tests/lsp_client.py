@@ -20,7 +20,7 @@ class Refused(Exception):
 class Client:
     """Starts a server, and ends it. It shows no findings of the linter where nothing else is asked for."""
 
-    def __init__(self, *arguments, initialize=True, snippets=True, options={"lint": False}):
+    def __init__(self, *arguments, initialize=True, snippets=True, options={"lint": False}, folder=None, resolves=True):
         environment = {**os.environ, "PYTHONPATH": str(PACKAGE)}
         command = [sys.executable, "-m", "promql", "lsp", *arguments]
         self.process = subprocess.Popen(
@@ -36,7 +36,9 @@ class Client:
         self.listener.start()
         if initialize:
             item = {"completionItem": {"snippetSupport": snippets}}
-            params = {"capabilities": {"textDocument": {"completion": item}}, "initializationOptions": options}
+            about = {"completion": item, "codeAction": {"resolveSupport": {"properties": ["edit"] * resolves}}}
+            params = {"capabilities": {"textDocument": about}, "initializationOptions": options}
+            params["rootUri"] = folder and Path(folder).as_uri()
             self.capabilities = self.request("initialize", params)["capabilities"]
             self.notify("initialized", {})
 

@@ -172,20 +172,20 @@ class Files(unittest.TestCase):
         text = lsp_files.rule_file(200).replace(" / ", "  / ")
         rules, _ = problems_of(text)
         layouts = RuleLayouts()
-        self.assertIsNone(layouts.edits(text, rules, "people"))
+        self.assertIsNone(layouts.edits(text, rules))
         whole = rule_file_edits(text, None)
         self.assertGreater(len(whole), 50)
         layouts.learn(text, rules, whole)
         with mock.patch.object(layout, "_edits_in", side_effect=AssertionError):
-            self.assertEqual(layouts.edits(text, rules, "people"), whole)
+            self.assertEqual(layouts.edits(text, rules), whole)
         new = edited(text, whole)
         rules, _ = problems_of(new)
         with mock.patch.object(layout, "_edits_in", side_effect=AssertionError):
-            self.assertEqual(layouts.edits(new, rules, "people"), [])
+            self.assertEqual(layouts.edits(new, rules), [])
         changed = new.replace(" > ", "  >  ", 1)
         self.assertNotEqual(changed, new)
         rules, _ = problems_of(changed)
-        self.assertEqual(layouts.edits(changed, rules, "people"), rule_file_edits(changed, None))
+        self.assertEqual(layouts.edits(changed, rules), rule_file_edits(changed, None))
 
     def test_layout_of_part(self):
         text = BROKEN.replace("job:up:sum == 0", "job:up:sum  ==  0").replace("< 3", "<   3")

@@ -86,8 +86,9 @@ class FileLinter:
         self._fixed_length = 0
         self._budget, self._compared = document.checker.lint_tokens, Budget(_MOST_COMPARED)
         self._reads = _MOST_READS
-        # The document that a text with fixes was read as.
+        # The document that a text with fixes was read as, and the edits that make this text.
         self.fixed_document = document
+        self.fixed_edits: List[Edit] = []
         self._rules: Dict[int, List[RulePlace]] = {}
         if isinstance(document, RuleFile):
             self._take_rules(document)
@@ -247,6 +248,13 @@ class FileLinter:
 
     # ---- fixes
 
+    def edits_of(self, found: FileFinding) -> List[Edit]:
+        """The edits of the file that make the fix of a finding. Raises where it would not be read as that."""
+        query = next(it for it in self._document.queries if it.offsets[0] <= found.start <= it.offsets[-1])
+        if not found.finding.fix or self._with([(query, edited_query(query.text, found.finding.fix.edits))]) is None:
+            raise FileError("left as it is: fixed, it would not be read as the same")
+        return self.fixed_edits
+
     def fixed(self) -> Tuple[str, int]:
         """The text of the file with all fixes in it, and how many queries that changes."""
         changes = [change for change in map(self._change, self._document.queries) if change]
@@ -278,7 +286,8 @@ class FileLinter:
         for plainly in (True, False):
             self._reads -= 1
             edits = [self._edits(query, text, plainly) for query, text in changes]
-            made = edited(source.text, (edit for some in edits for edit in some))
+            self.fixed_edits = [edit for some in edits for edit in some]
+            made = edited(source.text, self.fixed_edits)
             if all(edits) and self._has(made, texts):
                 return made
         return None

@@ -2,18 +2,24 @@
 
 from __future__ import annotations
 
-from typing import Any, Dict, Iterable, Iterator, List, NamedTuple, Optional
+from typing import Any, Callable, Dict, Iterable, Iterator, List, NamedTuple, Optional
+
+import promql
 
 from ..token_texts import MATCHER_SIGNS, Token
 from .context import BRACES, BRACKETS, LABEL_LIST, Context, context_at
 from .functions import AGGREGATIONS, FUNCTIONS, WORDS, Function
-from .names import Known
+from .names import Known, Names, known, names_of
+from .selectors import plain
 
 # The kinds of the protocol.
 _FUNCTION, _FIELD, _VARIABLE, _VALUE, _KEYWORD, _OPERATOR = 3, 5, 6, 12, 14, 24
 _DURATIONS = ("1m", "5m", "10m", "15m", "30m", "1h", "6h", "12h", "1d", "1w")
+# (those that the library takes after what is written)
+_UNITS = ("s", "m", "h", "d", "w", "y", "ms")
 _COMPARISONS = ("==", "!=", "<=", "<", ">=", ">")
 _MATCHING_WORDS = ("on", "ignoring", "group_left", "group_right")
+_NOTHING = Token("", "", 0, 0)
 # A list is not longer than this, and then says that there are more.
 MOST_ITEMS = 500
 
@@ -25,6 +31,8 @@ class Item(NamedTuple):
     documentation: str = ""
     # What is written, with `$0` for the place after it, where that is not the label.
     snippet: str = ""
+    # Whether it goes with the metric.
+    is_near: bool = False
 
 
 class Completion(NamedTuple):
@@ -34,15 +42,42 @@ class Completion(NamedTuple):
     end: int
 
 
-def complete(text: str, offset: int, known: Known) -> Optional[Completion]:
+def complete(text: str, offset: int, knows: Callable[[str, str], Known]) -> Optional[Completion]:
+    """What may be written, of the names that are known of a metric and a label."""
     context = context_at(text, offset)
     if context is None:
         return None
-    word = context.word
+    word, last, inner = context.word, context.previous(), context.inner
+    # (a number in brackets, or after `offset`, belongs to a unit)
+    is_time = inner and inner.kind == BRACKETS or (context.previous(2) or _NOTHING).lower == "offset"
+    if last and last.end == offset and last.text[-1].isdigit() and is_time:
+        return Completion(list(_units(last.text)), last.start, offset)
+    # (what is being written is no name yet)
+    own = names_of(text[: word.start] + text[word.end :] if word else text)
+    label = context.previous(2) if inner and inner.kind == BRACES and last and last.text in MATCHER_SIGNS else None
+    metric = _metric(context, own)
+    names = known([own], metric)
+    names.add(knows(metric, plain(label) if label else ""))
     if word and word.is_quoted:
-        return Completion(list(_in_string(context, known)), word.start + 1, offset)
-    start = word.start if word else offset
-    return Completion(list(_items(context, known)), start, offset)
+        return Completion(list(_in_string(context, names)), word.start + 1, offset)
+    return Completion(list(_items(context, names)), word.start if word else offset, offset)
+
+
+def _metric(context: Context, own: Names) -> str:
+    """The metric before the braces around a place; for a list of labels the first one of the query."""
+    inner = context.inner
+    if inner and inner.kind == LABEL_LIST:
+        return own.metrics[0].name if own.metrics else ""
+    return inner.head.text if inner and inner.kind == BRACES and inner.head else ""
+
+
+def _units(number: str) -> Iterator[Item]:
+    for unit in _UNITS:
+        try:
+            promql.check(f"a[{number}{unit}]")
+        except ValueError:
+            continue
+        yield Item(number + unit, _VALUE, "duration")
 
 
 def _in_string(context: Context, known: Known) -> Iterator[Item]:
@@ -65,7 +100,7 @@ def _items(context: Context, known: Known) -> Iterator[Item]:
     elif inner and inner.kind == BRACKETS:
         yield from _each(_DURATIONS, _VALUE, "duration")
     elif inner and inner.kind == LABEL_LIST:
-        yield from _each(known.labels, _FIELD, "label")
+        yield from (Item(label, _FIELD, "label", is_near=label in known.near) for label in sorted(known.labels | known.near))
     elif _closed_by(context) in _MATCHING_WORDS:
         if _closed_by(context) in ("on", "ignoring"):
             yield from map(_word, ("group_left", "group_right"))
@@ -79,8 +114,8 @@ def _items(context: Context, known: Known) -> Iterator[Item]:
 def _in_braces(context: Context, known: Known) -> Iterator[Item]:
     last = context.previous()
     if last and (last.text in ("{", ",") or last.kind == "operator" and last.is_word):
-        for label in sorted(known.labels | {"__name__"}):
-            yield Item(label, _FIELD, "label", "", f'{label}="$0"')
+        for label in sorted(known.labels | known.near | {"__name__"}):
+            yield Item(label, _FIELD, "label", "", f'{label}="$0"', label in known.near)
     elif last and last.is_sign:
         name = context.previous(2)
         values = known.values.get(name.text, set()) if name else set()
@@ -154,6 +189,9 @@ def shown(item: Item, edit_range: Any, snippets: bool) -> Dict[str, Any]:
     """An item as the protocol has it."""
     text = item.snippet if item.snippet and snippets else item.label
     found: Dict[str, Any] = {"label": item.label, "kind": item.kind, "textEdit": {"range": edit_range, "newText": text}}
+    if item.is_near:
+        # (before all others)
+        found["sortText"] = f" {item.label}"
     if item.detail:
         found["detail"] = item.detail
     if item.documentation:

@@ -4,20 +4,24 @@ from __future__ import annotations
 
 import re
 from bisect import bisect_right
-from typing import Any, Iterator, List, NamedTuple, Optional, Tuple
+from typing import Any, Iterator, List, NamedTuple, Optional, Sequence, Tuple
 
 import promql
 
 from .messages import INVALID_PARAMS, ProtocolError
 from .positions import Lines, Range
-from .findings import lint_problems, page_of
+from .findings import given_query, lint_problems, page_of
 from .layout import RuleLayouts
+from .outline import Group
 from .problems import ERROR, Problem
 from .rules import PlacedQuery, Rule, read_lines
+from .settings import Settings
+from .unread import query_at
 
 # A document is not looked at where it is larger.
 MOST_CHARACTERS = 8 * 1024 * 1024
-_YAML = re.compile(r"\.ya?ml$", re.I)
+TOO_LARGE = Problem(0, 0, ERROR, "larger than what the language server looks at")
+_YAML, _JSON = re.compile(r"\.(?:ya?ml|rules?)$", re.I), re.compile(r"\.json$", re.I)
 _BLANK_REST = re.compile(r"[ \t]*")
 
 
@@ -40,12 +44,19 @@ class Document:
     def __init__(self, uri: str, language: str, version: int, text: str) -> None:
         self.uri = uri
         self.version = version
-        self.is_rule_file = language != "promql" and (language.startswith("yaml") or bool(_YAML.search(uri)))
+        self.settings = Settings()
+        self.is_json = language.startswith("json") or language not in ("promql", "yaml") and bool(_JSON.search(uri))
+        # Whether it is a file that has queries, of rules or a dashboard, and no query.
+        self.is_rule_file = self.is_json or language != "promql" and (language.startswith("yaml") or bool(_YAML.search(uri)))
         self.rules: List[Rule] = []
+        self.groups: List[Group] = []
+        self.problems: List[Problem] = []
         self.layouts = RuleLayouts()
-        # Whether the rules are those of the text as it is, and whether what can be told of the text was told.
+        # Whether the rules are those of the text as it is, whether what can be told of the text was told, and whether the problems are
+        # those of the text as it is.
         self.is_read = False
         self.is_settled = False
+        self.is_told = False
         self.set_text(text)
 
     @property
@@ -57,12 +68,13 @@ class Document:
         self._put(text)
         self.is_read = self.is_settled = not self.is_rule_file
         if self.is_large:
-            self.rules, self.is_read, self.is_settled = [], False, True
+            self.rules, self.groups, self.is_read, self.is_settled = [], [], False, True
         elif not self.is_rule_file:
             self.rules = [Rule(0, len(text), False, "", 0, 0, "", [PlacedQuery(text, range(len(text) + 1))])]
 
     def _put(self, text: str) -> None:
         self.text = text
+        self.is_told = False
         self._lines: Optional[Lines] = None
 
     @property
@@ -86,6 +98,7 @@ class Document:
             return
         old = self.text
         self._put(new)
+        self.groups = [group.moved(end, len(text) - (end - start)) for group in self.groups]
         self._move_rules(old, start, end, len(text) - (end - start))
 
     def _move_rules(self, old: str, start: int, end: int, by: int) -> None:
@@ -103,14 +116,20 @@ class Document:
             self.is_read = self.is_settled = False
             self.rules = before + [it for it in (rule,) if it and it.end <= start] + after
 
-    def settle(self, rules: Optional[List[Rule]]) -> None:
+    def settle(self, rules: Optional[List[Rule]], groups: Sequence[Group] = ()) -> None:
         """Takes the rules that were read of the text as it is; where there are none to read, those of before stay."""
         self.is_settled, self.is_read = True, rules is not None
-        self.rules = self.rules if rules is None else rules
+        if rules is not None:
+            self.rules, self.groups = rules, list(groups)
 
     def queries(self) -> Iterator[PlacedQuery]:
         for rule in self.rules:
             yield from rule.queries
+
+    def parts(self) -> List[Tuple[int, int]]:
+        """Where groups are, and rules."""
+        # (a query that is a document is no rule)
+        return [(it.start, it.end) for it in self.groups] + [(it.start, it.end) for it in self.rules if self.is_rule_file]
 
     def place(self, offset: int) -> Optional[Place]:
         """The query at a place; the blanks after it on its line are of it, too."""
@@ -119,7 +138,8 @@ class Document:
             for query in rule.queries:
                 if query.start <= offset <= query.end or self._is_after(query, offset):
                     return Place(query, query.inside(offset))
-        return None
+        written = query_at(self.text, offset, self.is_json, self.is_read) if self.is_rule_file else None
+        return Place(written, written.inside(offset)) if written else None
 
     def _is_after(self, query: PlacedQuery, offset: int) -> bool:
         return query.end <= offset <= query.end + _blanks(self.text, query.end)
@@ -129,7 +149,7 @@ class Document:
         return self.lines.range(*query.span(start, end))
 
 
-def query_problems(text: str, lints: bool = False) -> List[Problem]:
+def query_problems(text: str, settings: Settings) -> List[Problem]:
     """What is wrong with a query that is a document, or likely to be. One without a token is no fault while it is written."""
     try:
         if text.strip():
@@ -140,15 +160,15 @@ def query_problems(text: str, lints: bool = False) -> List[Problem]:
         return [Problem(error.start, error.end, ERROR, "half of a surrogate pair")]
     except ValueError as error:
         return [Problem(0, len(text), ERROR, str(error))]
-    return lint_problems(text) if lints and text.strip() else []
+    return lint_problems(given_query(text), settings.selection) if settings.lints and text.strip() else []
 
 
 def diagnostics(document: Document, problems: List[Problem]) -> List[Any]:
     """The problems as the protocol has them."""
-    return [_diagnostic(document, problem) for problem in problems]
+    return [diagnostic(document, problem) for problem in problems]
 
 
-def _diagnostic(document: Document, problem: Problem) -> Any:
+def diagnostic(document: Document, problem: Problem) -> Any:
     place = document.lines.range(problem.start, problem.end)
     found = {"range": place, "severity": problem.severity, "source": "promql", "message": problem.message}
     if problem.code:

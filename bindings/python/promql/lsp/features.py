@@ -2,15 +2,26 @@
 
 from __future__ import annotations
 
-from typing import Any, Dict, List, NamedTuple, Optional
+import re
+from typing import Any, Callable, Dict, Iterator, List, NamedTuple, Optional, Tuple
 
-from . import completion, hover, navigation, selection, semantic
-from .documents import Document, Place
+from ..queries import Edit
+from . import completion, hover, navigation, outline, selection, semantic
+from .documents import Document, Place, diagnostic
 from .functions import Function
-from .messages import INVALID_PARAMS, ProtocolError
+from .messages import CONTENT_MODIFIED, INVALID_PARAMS, ProtocolError, member, whole
 from .names import Known, known
 from .prometheus import Prometheus
 from .roles import TYPES
+from .rules import PlacedQuery
+from .settings import path_of
+from .work import FIX, RENAME
+
+# The words of which all places in a query are shown, and of a text of a server so many characters.
+_WORDS = ("function", "string", "regexp", "variable", "property")
+_LONGEST_HELP = 500
+# The kinds of code actions, whose edits are made when one is chosen.
+_QUICK_FIX, _FIX_ALL = "quickfix", "source.fixAll.promql"
 
 
 class Workspace:
@@ -20,6 +31,11 @@ class Workspace:
         self.documents: Dict[str, Document] = {}
         self.prometheus = prometheus
         self.has_snippets = False
+        # Whether an editor asks for the edits of a code action when it is chosen.
+        self.resolves = False
+        self.folders: List[str] = []
+        # Whether an answer may wait for what the server of `prometheus` tells.
+        self.is_patient = True
 
     def document(self, params: Any) -> Document:
         return self.document_of(uri_of(params))
@@ -33,16 +49,36 @@ class Workspace:
     def all(self) -> List[Document]:
         return list(self.documents.values())
 
-    def known(self) -> Known:
-        """The names in the open documents, those that rules record, and those of the server."""
-        found = known(query.names for document in self.all for query in document.queries())
+    def known(self, but: PlacedQuery, metric: str, label: str) -> Known:
+        """The names in the open documents but for a query, those that rules record, and those of the server."""
+        found = known((query.names for document in self.all for query in document.queries() if query is not but), metric)
         found.metrics.update(rule.record for document in self.all for rule in document.rules if rule.record)
-        others = self.prometheus.known() if self.prometheus else Known(set(), set(), {})
-        found.metrics.update(others.metrics)
-        found.labels.update(others.labels)
-        for label, values in others.values.items():
-            found.values.setdefault(label, set()).update(values)
+        if self.prometheus:
+            found.add(self.prometheus.known(metric, label))
+            self.wait_for_server()
         return found
+
+    @property
+    def is_asking(self) -> bool:
+        return self.prometheus is not None and self.prometheus.is_busy
+
+    def wait_for_server(self) -> None:
+        """Has the request served later, where the server was asked something and may answer soon."""
+        if self.is_asking and self.is_patient:
+            raise Asking()
+
+
+class Asking(Exception):
+    """The answer waits for what a server tells."""
+
+
+class Later(NamedTuple):
+    """A result that the helper makes: what it does for a document, and what is answered with what comes of it."""
+
+    document: Document
+    kind: str
+    wanted: Any
+    answer: Callable[[Any], Any]
 
 
 class At(NamedTuple):
@@ -54,49 +90,57 @@ class At(NamedTuple):
 
 
 def uri_of(params: Any) -> str:
-    document = params.get("textDocument") if isinstance(params, dict) else None
-    uri = document.get("uri") if isinstance(document, dict) else None
+    uri = member(params, "textDocument", "uri")
     if not isinstance(uri, str):
         raise ProtocolError(INVALID_PARAMS, "no `textDocument`")
     return uri
 
 
-def _at(workspace: Workspace, params: Any) -> At:
+def where(workspace: Workspace, params: Any) -> At:
     document = workspace.document(params)
     offset = document.lines.offset(params.get("position"))
     return At(document, offset, document.place(offset))
 
 
 def on_hover(workspace: Workspace, params: Any) -> Any:
-    at = _at(workspace, params)
+    at = where(workspace, params)
     found = hover.hover(at.place.query.text, at.place.at) if at.place else None
     if not found or not at.place:
         return None
-    text, metric = found.text, navigation.metric_at(at.document, at.offset)
+    text, metric = at.place.query.shown(found.text), navigation.metric_at(at.document, at.offset)
+    if metric and workspace.prometheus:
+        told = workspace.prometheus.help(metric.name)
+        workspace.wait_for_server()
+        text += f"\n\nOn the server: {_plain(told)}" if told else ""
     for document, start, _ in navigation.records(workspace.all, metric.name) if metric else ():
         rule = next(rule for rule in document.rules if rule.record_start == start)
         for query in rule.queries[:1]:
-            text += f"\n\nRecorded as\n```promql\n{query.text}\n```"
+            text += f"\n\nRecorded as\n```promql\n{query.shown(query.text)}\n```"
     return {
         "contents": {"kind": "markdown", "value": text},
         "range": at.document.range_in(at.place.query, found.start, found.end),
     }
 
 
+def _plain(text: str) -> str:
+    """A text of a server, in Markdown."""
+    return re.sub(r"([^\w\s])", r"\\\1", " ".join(text[:_LONGEST_HELP].split()))
+
+
 def on_completion(workspace: Workspace, params: Any) -> Any:
-    at = _at(workspace, params)
+    at = where(workspace, params)
     if not at.place:
         return None
-    found = completion.complete(at.place.query.text, at.place.at, workspace.known())
+    query, text = at.place.query, at.place.query.text
+    found = completion.complete(text, at.place.at, lambda metric, label: workspace.known(query, metric, label))
     if found is None:
         return None
-    text = at.place.query.text
     items = [item for item in found.items if _goes_on(item.label, text[found.start : found.end])]
     # (blanks after a query are not of it, and what is written comes after them)
     is_after = found.start == found.end == len(text)
     edit_range = at.document.lines.range(at.offset, at.offset) if is_after else at.document.range_in(at.place.query, found.start, found.end)
     shown = [completion.shown(item, edit_range, workspace.has_snippets) for item in items[: completion.MOST_ITEMS]]
-    return {"isIncomplete": len(items) > len(shown), "items": shown}
+    return {"isIncomplete": len(items) > len(shown) or workspace.is_asking, "items": shown}
 
 
 def _goes_on(label: str, word: str) -> bool:
@@ -106,7 +150,7 @@ def _goes_on(label: str, word: str) -> bool:
 
 
 def on_signature_help(workspace: Workspace, params: Any) -> Any:
-    at = _at(workspace, params)
+    at = where(workspace, params)
     found = hover.signature(at.place.query.text, at.place.at) if at.place else None
     if not found:
         return None
@@ -133,7 +177,7 @@ def _parameter_spans(function: Function) -> List[List[int]]:
 
 
 def on_definition(workspace: Workspace, params: Any) -> Any:
-    at = _at(workspace, params)
+    at = where(workspace, params)
     metric = navigation.metric_at(at.document, at.offset)
     if not metric:
         return None
@@ -141,19 +185,18 @@ def on_definition(workspace: Workspace, params: Any) -> Any:
 
 
 def on_references(workspace: Workspace, params: Any) -> Any:
-    at = _at(workspace, params)
+    at = where(workspace, params)
     metric = navigation.metric_at(at.document, at.offset)
     if not metric:
         return None
-    context = params.get("context")
     found = list(navigation.uses(workspace.all, metric.name))
-    if isinstance(context, dict) and context.get("includeDeclaration"):
+    if member(params, "context", "includeDeclaration"):
         found = [*navigation.records(workspace.all, metric.name), *found]
     return [navigation.location(*place) for place in found]
 
 
 def on_prepare_rename(workspace: Workspace, params: Any) -> Any:
-    at = _at(workspace, params)
+    at = where(workspace, params)
     metric = navigation.metric_at(at.document, at.offset)
     if not metric:
         return None
@@ -161,12 +204,15 @@ def on_prepare_rename(workspace: Workspace, params: Any) -> Any:
 
 
 def on_rename(workspace: Workspace, params: Any) -> Any:
-    at = _at(workspace, params)
+    at = where(workspace, params)
     new = params.get("newName")
     metric = navigation.metric_at(at.document, at.offset)
     if not metric or not isinstance(new, str):
         raise ProtocolError(INVALID_PARAMS, "there is no metric here")
-    return navigation.rename(workspace.all, metric.name, new)
+    changes = navigation.rename(workspace.all, metric.name, new)
+    renaming = navigation.Renaming(metric.name, new, workspace.folders, [path_of(document.uri) for document in workspace.all])
+    later = Later(at.document, RENAME, renaming, lambda others: {"changes": {**others, **changes}})
+    return later if workspace.folders else later.answer({})
 
 
 def on_selection_range(workspace: Workspace, params: Any) -> Any:
@@ -178,9 +224,12 @@ def on_selection_range(workspace: Workspace, params: Any) -> Any:
 
 
 def _selections(document: Document, offset: int) -> Any:
-    """The ranges around a place: the smallest one, with its parent, and so on to the document."""
+    """The ranges around a place: the smallest one, with its parent, and so on to the rule, the group, and the document."""
     place = document.place(offset)
     found: Dict[str, Any] = {"range": document.lines.range(0, len(document.text))}
+    for start, end in document.parts():
+        if start <= offset <= end:
+            found = {"range": document.lines.range(start, end), "parent": found}
     for span in reversed(selection.spans_around(place.query.text, place.at) if place else []):
         assert place
         inner = document.range_in(place.query, *span)
@@ -195,7 +244,64 @@ def on_semantic_tokens(workspace: Workspace, params: Any) -> Any:
     return {"data": semantic.encoded(document.lines, document.queries(), start, end)}
 
 
-ABOUT_PLACES = {
+def on_document_highlight(workspace: Workspace, params: Any) -> Any:
+    """The places of a metric in the document, written or read; of any other word those in the query."""
+    at = where(workspace, params)
+    metric = navigation.metric_at(at.document, at.offset)
+    if metric:
+        places = [(it, kind) for kind, find in ((3, navigation.records), (2, navigation.uses)) for it in find([at.document], metric.name)]
+        return [{"range": at.document.lines.range(start, end), "kind": kind} for (_, start, end), kind in places]
+    query, roles = (at.place.query, at.place.query.roles) if at.place else (None, ())
+    word = next((it for it in roles if at.place and it.start <= at.place.at <= it.end and TYPES[it.type] in _WORDS), None)
+    if not query or not word:
+        return None
+    text = query.text[word.start : word.end]
+    same = [it for it in roles if it.type == word.type and query.text[it.start : it.end] == text]
+    return [{"range": at.document.range_in(query, it.start, it.end), "kind": 1} for it in same]
+
+
+def _actions(document: Document, span: Tuple[int, int], only: Any) -> Iterator[Dict[str, Any]]:
+    """What may be done in a part of a document, of the kinds that are asked for."""
+    fixable = [(number, it) for number, it in enumerate(document.problems) if it.is_fixable]
+    for number, it in fixable if _is_asked(_QUICK_FIX, only) else ():
+        if it.start <= span[1] and span[0] <= it.end:
+            found = _action(document, _QUICK_FIX, f"Fix {it.code}: {it.message}", number)
+            yield {**found, "diagnostics": [diagnostic(document, it)], "isPreferred": True}
+    if fixable and _is_asked(_FIX_ALL, only):
+        yield _action(document, _FIX_ALL, "Fix all that the linter has a fix for", -1)
+
+
+def _is_asked(kind: str, only: Any) -> bool:
+    return not isinstance(only, list) or any(isinstance(it, str) and f"{kind}.".startswith(f"{it}.") for it in only)
+
+
+def _action(document: Document, kind: str, title: str, number: int) -> Dict[str, Any]:
+    return {"title": title, "kind": kind, "data": {"uri": document.uri, "version": document.version, "number": number}}
+
+
+def on_code_action(workspace: Workspace, params: Any) -> Any:
+    document = workspace.document(params)
+    if not document.is_told:
+        raise ProtocolError(CONTENT_MODIFIED, "the document is not read yet")
+    span = document.lines.span(params.get("range"))
+    # (an editor that never asks for edits would do nothing)
+    return list(_actions(document, span, member(params, "context", "only"))) if workspace.resolves else []
+
+
+def on_resolve(workspace: Workspace, params: Any) -> Any:
+    """A code action with its edit."""
+    document, number = workspace.document_of(str(member(params, "data", "uri"))), whole(member(params, "data"), "number", -1)
+    if member(params, "data", "version") != document.version or not document.is_told or number >= len(document.problems):
+        raise ProtocolError(CONTENT_MODIFIED, "the document was changed meanwhile")
+    wanted = document.problems[number] if number >= 0 else None
+    return Later(document, FIX, wanted, lambda made: {**params, "edit": {"changes": {document.uri: text_edits(document, made)}}})
+
+
+def text_edits(document: Document, edits: List[Edit]) -> List[Any]:
+    return [{"range": document.lines.range(edit.start, edit.end), "newText": edit.text} for edit in edits]
+
+
+ABOUT_PLACES: Dict[str, Callable[[Workspace, Any], Any]] = {
     "textDocument/hover": on_hover,
     "textDocument/completion": on_completion,
     "textDocument/signatureHelp": on_signature_help,
@@ -204,6 +310,11 @@ ABOUT_PLACES = {
     "textDocument/prepareRename": on_prepare_rename,
     "textDocument/rename": on_rename,
     "textDocument/selectionRange": on_selection_range,
+    "textDocument/documentSymbol": lambda workspace, params: outline.symbols(workspace.document(params)),
+    "textDocument/foldingRange": lambda workspace, params: outline.folds(workspace.document(params)),
+    "textDocument/documentHighlight": on_document_highlight,
+    "textDocument/codeAction": on_code_action,
+    "codeAction/resolve": on_resolve,
     "textDocument/semanticTokens/full": on_semantic_tokens,
     "textDocument/semanticTokens/range": on_semantic_tokens,
 }
@@ -221,5 +332,9 @@ CAPABILITIES = {
     "documentFormattingProvider": True,
     "documentRangeFormattingProvider": True,
     "selectionRangeProvider": True,
+    "documentSymbolProvider": True,
+    "foldingRangeProvider": True,
+    "documentHighlightProvider": True,
+    "codeActionProvider": {"codeActionKinds": [_QUICK_FIX, _FIX_ALL], "resolveProvider": True},
     "semanticTokensProvider": {"legend": {"tokenTypes": TYPES, "tokenModifiers": []}, "full": True, "range": True},
 }

@@ -1,42 +1,48 @@
-"""Findings of the linter as problems of a document."""
+"""Findings of the linter as problems of a document, and their fixes."""
 
 from __future__ import annotations
 
 from functools import lru_cache
 from pathlib import Path
-from typing import List
+from typing import List, Optional
 
-from ..lint import look_at
+from ..checked_queries import QueryChecker
+from ..documents import Document
+from ..files import FileError, Source
 from ..lint.file_findings import FileLinter
-from ..lint.findings import Finding, Severity
-from ..lint.subject import RuleContext
-from ..lint.table import REJECTED, RULES, Selection
-from ..rule_files import RuleFile
+from ..lint.findings import Severity
+from ..lint.given_queries import GivenQuery
+from ..lint.table import RULES, Selection
+from ..queries import Edit
 from .problems import INFORMATION, WARNING, Problem
 
-# (what is rejected is told by the library)
-_SELECTION = Selection(ignored=(REJECTED,))
 _SEVERITIES = {Severity.ERROR: WARNING, Severity.WARNING: WARNING, Severity.INFO: INFORMATION}
 # The page that has the rules, where the package is in its repository.
 _PAGE = Path(__file__).resolve().parents[4] / "docs/guide/lint.md"
 
 
-def lint_problems_of_file(file: RuleFile) -> List[Problem]:
-    linter = FileLinter(file, _SELECTION, has_fixes=False)
-    found = [_problem(it.start, it.end, it.finding) for it in linter.findings()]
+def lint_problems(file: Document, selection: Selection) -> List[Problem]:
+    linter, found = FileLinter(file, selection), []
+    for start, end, finding, *_ in linter.findings():
+        found.append(Problem(start, end, _SEVERITIES[finding.severity], finding.message, finding.code, finding.fix is not None))
     return found + [Problem(it.start, it.end, WARNING, it.message) for it in linter.left]
 
 
-def lint_problems(query: str) -> List[Problem]:
-    """The same for a query that is a document."""
-    try:
-        return [_problem(it.span.start, it.span.end, it) for it in look_at(query, _SELECTION, RuleContext(), has_fixes=False)]
-    except (ValueError, RecursionError):
-        return []
+def fix_edits(file: Document, selection: Selection, wanted: Optional[Problem]) -> List[Edit]:
+    """The edits of a file that make the fix of a finding, or all fixes, after which it is read as it is to be."""
+    linter = FileLinter(file, selection)
+    if not wanted:
+        linter.fixed()
+        return linter.fixed_edits
+    for found in linter.findings():
+        if found.finding.fix and (found.start, found.end, found.finding.code) == (wanted.start, wanted.end, wanted.code):
+            return linter.edits_of(found)
+    raise FileError("left as it is: there is no such fix any more")
 
 
-def _problem(start: int, end: int, finding: Finding) -> Problem:
-    return Problem(start, end, _SEVERITIES[finding.severity], finding.message, finding.code)
+def given_query(text: str) -> GivenQuery:
+    """A query that is a document."""
+    return GivenQuery(Source("", text, ""), QueryChecker())
 
 
 @lru_cache(maxsize=None)

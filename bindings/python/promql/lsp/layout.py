@@ -3,19 +3,20 @@
 from __future__ import annotations
 
 import re
-from typing import Dict, Iterator, List, NamedTuple, Optional, Tuple
+from typing import Dict, Iterator, List, NamedTuple, Optional, Tuple, Union
 
 import promql
 
+from ..dashboards import Dashboard
 from ..files import BLANKS, FileError
 from ..format_command import Printer
-from ..options import PEOPLE
+from ..options import PEOPLE, WIDTH
 from ..queries import Edit, Query, edited
 from ..rule_files import RuleFile
 from ..token_texts import comments_of
 from .rules import Rule, file_of, lines_before, read_file, rules_at
+from .settings import Settings
 
-WIDTH = 100
 # How many rules are looked at while the editor waits.
 _FEW = 40
 # Blank lines and comments.
@@ -31,19 +32,19 @@ class LeftError(Exception):
 Span = Tuple[int, int]
 
 
-def rule_file_edits(text: str, span: Optional[Span], style: str = PEOPLE) -> List[Edit]:
-    """The edits that lay out the queries of a rule file, or those of them that are in a part of it. What is rejected is left."""
-    return _edits_in(file_of(text), span, style, by_rules=True)
+def rule_file_edits(text: str, span: Optional[Span], settings: Settings = Settings(), is_json: bool = False) -> List[Edit]:
+    """The edits that lay out the queries of a file, or those of them that are in a part of it. What is rejected is left."""
+    return _edits_in(file_of(text, is_json), span, settings, by_rules=True)
 
 
-def _edits_in(file: RuleFile, span: Optional[Span], style: str, by_rules: bool) -> List[Edit]:
+def _edits_in(file: Union[Dashboard, RuleFile], span: Optional[Span], settings: Settings, by_rules: bool) -> List[Edit]:
     """The same. By rules, only those that change are read again, where they are few, and not all of the file."""
-    text, printers = file.source.text, _Printers(style)
+    text, printers = file.source.text, _Printers(settings)
     changes = [(query, new) for query in file.queries if _is_in(query, span) for new in [printers.laid_out(query)] if new is not None]
     if not changes:
         return []
     edits = [query.spelling.edit(new) for query, new in changes]
-    if by_rules and len(edits) <= _FEW and _means_the_same_by_rules(file, changes, edits, style):
+    if by_rules and isinstance(file, RuleFile) and len(edits) <= _FEW and _means_the_same_by_rules(file, changes, edits, settings):
         return sorted(edits)
     if not _means_the_same(file, printers, changes, edited(text, edits)):
         raise LeftError(_NOT_SAME)
@@ -53,9 +54,9 @@ def _edits_in(file: RuleFile, span: Optional[Span], style: str, by_rules: bool) 
 class _Printers:
     """How queries are written: those with a comment for people, since every other layout loses it."""
 
-    def __init__(self, style: str) -> None:
-        self._of_others = Printer(WIDTH, False, str, style)
-        self._of_noted = Printer(WIDTH, False, str, PEOPLE)
+    def __init__(self, settings: Settings) -> None:
+        self._of_others = Printer(settings.width, False, str, settings.style)
+        self._of_noted = Printer(settings.width, False, str, PEOPLE)
 
     def of(self, query: Query) -> Printer:
         return self._of_noted if comments_of(query.text) else self._of_others
@@ -74,7 +75,7 @@ def _is_in(query: Query, span: Optional[Span]) -> bool:
     return span is None or query.offsets[0] <= span[1] and span[0] <= query.offsets[-1]
 
 
-def _means_the_same(file: RuleFile, printers: _Printers, changes: List[Tuple[Query, str]], text: str) -> bool:
+def _means_the_same(file: Union[Dashboard, RuleFile], printers: _Printers, changes: List[Tuple[Query, str]], text: str) -> bool:
     queries = {(query.original, new): query for query, new in changes}
 
     def same_query(old: str, new: str) -> bool:
@@ -87,13 +88,13 @@ def _means_the_same(file: RuleFile, printers: _Printers, changes: List[Tuple[Que
         return False
 
 
-def _means_the_same_by_rules(file: RuleFile, changes: List[Tuple[Query, str]], edits: List[Edit], style: str) -> bool:
+def _means_the_same_by_rules(file: RuleFile, changes: List[Tuple[Query, str]], edits: List[Edit], settings: Settings) -> bool:
     """Whether each edit is that of a rule which can be looked at by itself."""
     text = file.source.text
     rules = {rule.start if rule else -1: rule for rule in rules_at(file, [query.offsets[0] for query, _ in changes])}
     parts = [_part(text, rule) if rule else None for rule in rules.values()]
     try:
-        found = [edit for part in parts if part for edit in _edits_of(part, style)]
+        found = [edit for part in parts if part for edit in _edits_of(part, settings)]
     except (LeftError, FileError):
         return False
     return None not in parts and sorted(found) == sorted(edits)
@@ -109,14 +110,14 @@ class _Part(NamedTuple):
     text: str
 
 
-def lines_edits(text: str, rules: List[Rule], span: Span, style: str = PEOPLE) -> Optional[List[Edit]]:
+def lines_edits(text: str, rules: List[Rule], span: Span, settings: Settings = Settings()) -> Optional[List[Edit]]:
     """The edits of a part of a file that is read, where few rules are in it; nothing where they have to be looked at with all others."""
     begins = [*(rule.start for rule in rules), len(text)]
     inside = [rule for number, rule in enumerate(rules) if rule.start <= span[1] and span[0] <= begins[number + 1]]
     parts = [_part(text, rule) for rule in inside]
     if len(inside) > _FEW or None in parts:
         return None
-    found = [_edits_of(part, style, span) for rule, part in zip(inside, parts) if part and rule.end >= span[0]]
+    found = [_edits_of(part, settings, span) for rule, part in zip(inside, parts) if part and rule.end >= span[0]]
     return [edit for edits in found for edit in edits] if None not in found else None
 
 
@@ -130,11 +131,11 @@ def _part(text: str, rule: Rule) -> Optional[_Part]:
     return _Part(rule.start, lines) if lines_before(lines) is not None else None
 
 
-def _edits_of(part: _Part, style: str, span: Optional[Span] = None) -> List[Edit]:
+def _edits_of(part: _Part, settings: Settings, span: Optional[Span] = None) -> List[Edit]:
     before = lines_before(part.text) or ""
     by = part.start - len(before)
     inside = (max(span[0] - by, 0), max(span[1] - by, 0)) if span else None
-    edits = _edits_in(read_file(before + part.text), inside, style, by_rules=False)
+    edits = _edits_in(read_file(before + part.text), inside, settings, by_rules=False)
     return [Edit(edit.start + by, edit.end + by, edit.text) for edit in edits]
 
 
@@ -144,16 +145,19 @@ class RuleLayouts:
     def __init__(self) -> None:
         # The edits of a rule, counted from its first line on.
         self._known: Dict[str, Tuple[Edit, ...]] = {}
+        self._settings = Settings()
 
-    def edits(self, text: str, rules: List[Rule], style: str) -> Optional[List[Edit]]:
+    def edits(self, text: str, rules: List[Rule], settings: Settings = Settings()) -> Optional[List[Edit]]:
         """The edits of a file that is read; nothing where it has to be looked at as a whole, since many of its rules are new."""
+        if settings != self._settings:
+            self._known, self._settings = {}, settings
         parts = [_part(text, rule) for rule in rules]
         unknown = [part for part in parts if part and part.text not in self._known]
         # (a rule without a query may be of a file whose queries are not PromQL)
         if None in parts or len(unknown) > _FEW or not all(rule.queries for rule in rules):
             return None
         for part in unknown:
-            self._known[part.text] = tuple(_moved(_edits_of(part, style), -part.start))
+            self._known[part.text] = tuple(_moved(_edits_of(part, settings), -part.start))
         if len(self._known) > 4 * len(parts) + _FEW:
             self._known = {part.text: self._known[part.text] for part in parts if part}
         return [edit for part in parts if part for edit in _moved(self._known[part.text], part.start)]
@@ -179,22 +183,22 @@ def _moved(edits: "List[Edit] | Tuple[Edit, ...]", by: int) -> Iterator[Edit]:
 # ---- a query in a document of its own
 
 
-def query_edits(text: str) -> List[Edit]:
+def query_edits(text: str, width: int = WIDTH) -> List[Edit]:
     """The edit that lays out a query for people, whose text ends in a line end if it did."""
-    new = promql.format(text, width=WIDTH) + "\n" * text.endswith("\n")
+    new = promql.format(text, width=min(width, promql.MAX_LINE)) + "\n" * text.endswith("\n")
     return [Edit(0, len(text), new)] if new != text else []
 
 
-def node_edits(text: str, span: Span) -> List[Edit]:
+def node_edits(text: str, span: Span, width: int = WIDTH) -> List[Edit]:
     """The edit that lays out the smallest node of a query with this part in it."""
     start, end = _trimmed(text, span)
     around = [place for place in promql.places(text) if place[0] <= start and end <= place[1]]
     if not around:
-        return query_edits(text)
+        return query_edits(text, width)
     start, end = around[-1]
     line = text[text.rfind("\n", 0, start) + 1 : start]
-    indentation = line[: min(len(line) - len(line.lstrip(" ")), WIDTH // 2)]
-    laid_out = promql.format(text[start:end], width=WIDTH - len(indentation))
+    indentation = line[: min(len(line) - len(line.lstrip(" ")), width // 2)]
+    laid_out = promql.format(text[start:end], width=min(width, promql.MAX_LINE) - len(indentation))
     edit = Edit(start, end, laid_out.replace("\n", "\n" + indentation))
     new = edited(text, [edit])
     if promql.canonical(new) != promql.canonical(text) or comments_of(new) != comments_of(text):

@@ -78,6 +78,21 @@ def decoded(body: bytes) -> Message:
     return message
 
 
+def member(holder: Any, *names: str) -> Any:
+    """What is under these names, each in the one before."""
+    for name in names:
+        holder = holder.get(name) if isinstance(holder, dict) else None
+    return holder
+
+
+def whole(holder: Any, name: str, least: int = 0) -> int:
+    """A number of a message that counts something."""
+    number = member(holder, name)
+    if not isinstance(number, int) or isinstance(number, bool) or number < least:
+        raise ProtocolError(INVALID_PARAMS, f"`{name}` is no number from {least} on")
+    return number
+
+
 def write_message(stream: BinaryIO, message: Message) -> None:
     body = json.dumps({"jsonrpc": "2.0", **message}, separators=(",", ":")).encode("ascii")
     stream.write(b"Content-Length: %d\r\n\r\n%s" % (len(body), body))

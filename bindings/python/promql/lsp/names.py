@@ -2,7 +2,7 @@
 
 from __future__ import annotations
 
-from typing import Dict, Iterable, List, NamedTuple, Set, Tuple
+from typing import Callable, Dict, Iterable, List, NamedTuple, Set, Tuple
 
 from ..token_texts import code_of
 from .selectors import labels_in, plain, selectors_of
@@ -44,17 +44,34 @@ def names_of(text: str) -> Names:
     return Names(tuple(metrics), tuple(sorted(labels - {"__name__"})), tuple(sorted(values)))
 
 
+def names_with(names: Names, is_one: Callable[[str], bool]) -> Names:
+    """Those of the names that are some."""
+    metrics, labels = (use for use in names.metrics if is_one(use.name)), filter(is_one, names.labels)
+    return Names(tuple(metrics), tuple(labels), tuple(it for it in names.values if all(map(is_one, it))))
+
+
 class Known(NamedTuple):
     """The names of many queries."""
 
     metrics: Set[str]
     labels: Set[str]
     values: Dict[str, Set[str]]
+    # The labels that go with the metric that is asked about.
+    near: Set[str]
+
+    def add(self, other: Known) -> None:
+        for own, others in ((self.metrics, other.metrics), (self.labels, other.labels), (self.near, other.near)):
+            own.update(others)
+        for label, values in other.values.items():
+            self.values.setdefault(label, set()).update(values)
 
 
-def known(names: Iterable[Names]) -> Known:
-    found = Known(set(), set(), {})
+def known(names: Iterable[Names], metric: str = "") -> Known:
+    """The names of queries; the labels of those with a metric go with it."""
+    found = Known(set(), set(), {}, set())
     for each in names:
+        if metric and any(use.name == metric for use in each.metrics):
+            found.near.update(each.labels)
         found.metrics.update(use.name for use in each.metrics)
         found.labels.update(each.labels)
         for label, value in each.values:

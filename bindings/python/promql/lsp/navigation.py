@@ -2,15 +2,22 @@
 
 from __future__ import annotations
 
-from typing import Any, Dict, Iterable, Iterator, List, NamedTuple, Optional, Tuple
+import mmap
+import os
+from pathlib import Path
+from typing import Any, Dict, Iterable, Iterator, List, NamedTuple, Optional, Sequence, Tuple
 
 import promql
 
+from ..files import FileError, read_source
 from ..queries import Edit, edited
-from .documents import Document
+from ..targets import targets_of
+from ..yaml_nodes import NULLS
+from .documents import TOO_LARGE, Document
+from .layout import LeftError
 from .messages import INVALID_PARAMS, REQUEST_FAILED, ProtocolError
 from .names import names_of
-from .rules import PlacedQuery, read_lines
+from .rules import PlacedQuery, file_of, problems_of, read_lines
 
 
 class Named(NamedTuple):
@@ -55,7 +62,7 @@ def location(document: Document, start: int, end: int) -> Dict[str, Any]:
 
 
 def rename(documents: List[Document], name: str, new: str) -> Dict[str, Any]:
-    """The edits of each document that give a metric another name. Raises where one of them would do anything else."""
+    """The edits of each document that give a metric another name, by its URI. Raises where one of them would do anything else."""
     if not _is_metric(new):
         raise ProtocolError(INVALID_PARAMS, f"not a name of a metric: {new!r}")
     changes: Dict[str, Any] = {}
@@ -70,18 +77,16 @@ def rename(documents: List[Document], name: str, new: str) -> Dict[str, Any]:
         _look_at(document, name, new)
         edits = [{"range": document.lines.range(start, end), "newText": new} for start, end in sorted({*places})]
         changes[document.uri] = edits
-    if not changes:
-        raise ProtocolError(REQUEST_FAILED, "there is no metric of this name")
-    return {"changes": changes}
+    return changes
 
 
 def _is_metric(name: str) -> bool:
-    """Whether a name is one of a metric; in YAML a colon at an end may be a sign."""
+    """Whether a name is one of a metric; in YAML a colon at an end may be a sign, and some words are no text."""
     try:
         promql.rename_metric("up", "up", name)
     except ValueError:
         return False
-    return not name.endswith(":") and not name.startswith(":")
+    return not name.endswith(":") and not name.startswith(":") and name not in NULLS
 
 
 def _look_at(document: Document, name: str, new: str) -> None:
@@ -108,17 +113,57 @@ def _renamed(query: PlacedQuery, name: str, new: str) -> str:
 
 def _look_at_query(query: PlacedQuery, name: str, new: str) -> None:
     try:
-        before = promql.collect(query.text)["metrics"]
+        promql.check(query.text)
     except ValueError:
         # (a query that is rejected has nothing to lose but its places)
         return
     text = _renamed(query, name, new)
     try:
-        after = promql.collect(text)["metrics"]
+        is_right = promql.canonical(text) == promql.canonical(promql.rename_metric(query.text, name, new))
     except ValueError as error:
         raise ProtocolError(REQUEST_FAILED, f"a query would be rejected with the name {new!r}: {error}") from error
-    # (a name that the query has in a form which is not renamed stays)
-    if set(after) not in ({new if it == name else it for it in before}, {*before, new}):
+    if not is_right or len(names_of(text).metrics) != len(query.names.metrics):
         raise ProtocolError(REQUEST_FAILED, f"a query would be another one with the name {new!r}")
-    if len(names_of(text).metrics) != len(query.names.metrics):
-        raise ProtocolError(REQUEST_FAILED, f"a query would be another one with the name {new!r}")
+
+
+# ---- files that no editor has open
+
+
+class Renaming(NamedTuple):
+    """A metric, its new name, the folders, and the files in them that are open."""
+
+    name: str
+    new: str
+    folders: Sequence[str]
+    opened: Sequence[str]
+
+
+def changes_in_folders(renaming: Renaming) -> Dict[str, Any]:
+    """The edits of each file with the metric, by its URI. Raises where one cannot be read, or would not be read the same."""
+    opened, changes = {os.path.realpath(path) for path in renaming.opened if path}, {}
+    for target in targets_of([it for it in renaming.folders if os.path.isdir(it)], False):
+        path = os.path.realpath(target.name)
+        if not target.left and path not in opened and os.path.isfile(path):
+            opened.add(path)
+            try:
+                changes.update(_changes(path, renaming))
+            except (ProtocolError, FileError, OSError) as error:
+                raise LeftError(f"{path}: {getattr(error, 'strerror', None) or error}") from error
+    return changes
+
+
+def _changes(path: str, renaming: Renaming) -> Dict[str, Any]:
+    if not os.path.getsize(path):
+        return {}
+    with open(path, "rb") as file, mmap.mmap(file.fileno(), 0, access=mmap.ACCESS_READ) as data:
+        if data.find(renaming.name.encode()) < 0:
+            return {}
+    document = Document(Path(path).as_uri(), "", 0, read_source(path).text)
+    rules, problems = (None, [TOO_LARGE]) if document.is_large else problems_of(document.text, is_json=document.is_json)
+    if rules is None and problems:
+        raise FileError(problems[0].message)
+    document.settle(rules or [])
+    changes = rename([document], renaming.name, renaming.new)
+    if changes and sum(len(rule.queries) for rule in document.rules) < sum(not it.skipped for it in file_of(document.text, document.is_json).queries):
+        raise FileError("it has more queries than are looked at")
+    return changes

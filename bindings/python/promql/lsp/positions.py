@@ -6,7 +6,7 @@ import re
 from typing import Any, Dict, Tuple
 
 from ..line_index import LineIndex
-from .messages import INVALID_PARAMS, ProtocolError
+from .messages import INVALID_PARAMS, ProtocolError, whole
 
 _WIDE = re.compile("[\U00010000-\U0010ffff]")
 
@@ -21,6 +21,8 @@ class Lines:
         self._index = LineIndex(text)
         # (most texts have no character of two units, and then units are characters)
         self._is_narrow = text.isascii() or not _WIDE.search(text)
+        # (and without carriage returns no place is within a line's end)
+        self._is_plain = self._is_narrow and "\r" not in text
 
     def line_begin(self, offset: int) -> int:
         """Where the line of a character begins."""
@@ -30,7 +32,7 @@ class Lines:
         """The line of a character, and the UTF-16 units before it there."""
         offset = min(max(offset, 0), len(self.text))
         begin = self._index.begin(offset)
-        end = self._index.end(begin, offset)
+        end = offset if self._is_plain else self._index.end(begin, offset)
         return self._index.line(offset), end - begin if self._is_narrow else units(self.text[begin:end])
 
     def position(self, offset: int) -> Dict[str, int]:
@@ -65,11 +67,3 @@ class Lines:
 def units(text: str) -> int:
     """How many UTF-16 units a text has."""
     return len(text) + len(_WIDE.findall(text))
-
-
-def whole(holder: Any, name: str) -> int:
-    """A number of a message that counts something."""
-    number = holder.get(name) if isinstance(holder, dict) else None
-    if not isinstance(number, int) or isinstance(number, bool) or number < 0:
-        raise ProtocolError(INVALID_PARAMS, f"`{name}` is no number from 0 on")
-    return number

@@ -15,5 +15,6 @@ class Problem(NamedTuple):
     end: int
     severity: int
     message: str
-    # The code of a rule of the linter.
+    # The code of a rule of the linter, and whether it has a fix.
     code: str = ""
+    is_fixable: bool = False

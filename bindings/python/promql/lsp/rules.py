@@ -5,38 +5,61 @@ from __future__ import annotations
 import re
 from bisect import bisect_right
 from functools import lru_cache
-from typing import Iterable, Iterator, List, NamedTuple, Optional, Sequence, Tuple
+from typing import Iterable, Iterator, List, NamedTuple, Optional, Sequence, Tuple, Union
 
 import promql
 
-from ..checked_queries import Budget
-from ..documents import GROUPS
+from ..checked_queries import Budget, QueryChecker
+from ..dashboards import Dashboard, may_have_queries
+from ..documents import GROUPS, document_of
 from ..files import Fault, FileError, Source
 from ..messages import listed
-from ..queries import Query
+from ..queries import Query, VariableTexts
 from ..rule_files import RuleFile
 from ..token_texts import tokens_of
 from ..yaml_nodes import Node
-from .findings import lint_problems_of_file
-from .names import names_of
+from .findings import lint_problems
+from .names import Names, names_of, names_with
 from .problems import ERROR, WARNING, Problem
-from .roles import roles_of
+from .roles import Role, roles_of
+from .selection import folds_of
+from .settings import Settings
 
 NAME = "document"
 # Of a rule, and of the queries of a file.
 _MOST_NODES, _MOST_TOKENS = 10_000, 100_000
 # Lines that are longer are not read by themselves.
 _LONGEST_LINES = 16_384
+# Of longer queries nothing is kept.
+_LONGEST_KEPT = 400
 _LINE_BEGINS = re.compile(r"\r\n|\r|\n")
 
 
-class PlacedQuery:
-    """A query of a document, with the place of each of its characters."""
+# The names of a query, its roles and folds, and how many tokens it has.
+LookedAt = Tuple[Names, Tuple[Role, ...], List[Tuple[int, int]], int]
 
-    def __init__(self, text: str, offsets: Sequence[int]) -> None:
+
+def _look_at(text: str) -> LookedAt:
+    return names_of(text), roles_of(text), folds_of(text), len(tokens_of(text))
+
+
+_looked_at = lru_cache(maxsize=2_048)(_look_at)
+
+
+def looked_at(text: str) -> LookedAt:
+    """What is in a query; that of short ones is kept, since few of a file that is read again are new."""
+    return _looked_at(text) if len(text) <= _LONGEST_KEPT else _look_at(text)
+
+
+class PlacedQuery:
+    """A query of a document, with the place of each of its characters, and what stands in it for the variables of a dashboard."""
+
+    def __init__(self, text: str, offsets: Sequence[int], variables: Optional[VariableTexts] = None) -> None:
         self.text = text
-        self.names = names_of(text)
-        self.roles = roles_of(text)
+        self.variables = variables
+        self.names, self.roles, self.folds, _ = looked_at(text)
+        if variables:
+            self.names = names_with(self.names, lambda name: self.shown(name) == name)
         # Whether its characters are beside each other on one line.
         self.is_line = offsets[len(text)] - offsets[0] == len(text) and "\n" not in text and "\r" not in text
         self.start = offsets[0]
@@ -45,6 +68,10 @@ class PlacedQuery:
             self._runs = [(0, self.start)]
         else:
             self._runs = list(_runs(offsets[: len(text)])) or [(0, self.start)]
+
+    def shown(self, text: str) -> str:
+        """A part of the query, as people know it."""
+        return self.variables.put_back(text) if self.variables else text
 
     def moved(self, by: int) -> None:
         self.start += by
@@ -102,23 +129,25 @@ class Rule(NamedTuple):
         return self._replace(start=self.start + by, end=self.end + by, record_start=places[0], record_end=places[1])
 
 
-def read_file(text: str) -> RuleFile:
-    return RuleFile(Source(NAME, text, ""))
+def read_file(text: str, is_json: bool = False) -> Union[Dashboard, RuleFile]:
+    return document_of(Source(NAME, text, ""), False, is_json, None, QueryChecker())
 
 
 # (a text is laid out that was read before)
 file_of = lru_cache(maxsize=1)(read_file)
 
 
-def rules_of(file: RuleFile) -> List[Rule]:
+def rules_of(file: Union[Dashboard, RuleFile]) -> List[Rule]:
     text, budget = file.source.text, Budget(_MOST_TOKENS)
-    admitted = (query for query in _admitted(file) if budget.takes(0) and budget.takes(len(tokens_of(query.text))))
-    # (what is in a query is read while its tokens are known)
-    queries = sorted([PlacedQuery(query.text, query.offsets) for query in admitted], key=lambda query: query.start)
+    admitted = (query for query in _admitted(file) if budget.takes(0) and budget.takes(looked_at(query.text)[3]))
+    placed = (PlacedQuery(query.text, query.offsets, query.variables) for query in admitted)
+    queries = sorted(placed, key=lambda query: query.start)
+    if isinstance(file, Dashboard):
+        return list(map(_lone, queries))
     found: List[Rule] = []
     used = 0
     for node in sorted(file.rules(), key=lambda rule: rule.start):
-        end, is_whole = _end(node)
+        end, is_whole = end_of(node)
         while used < len(queries) and queries[used].start < node.start:
             found.append(_lone(queries[used]))
             used += 1
@@ -128,10 +157,19 @@ def rules_of(file: RuleFile) -> List[Rule]:
             used += 1
         found.append(_rule(file, node, end, is_whole, own, text))
     found += map(_lone, queries[used:])
-    return found
+    return sorted([*found, *_recorded_in_texts(file)], key=lambda rule: rule.start) if file.texts else found
 
 
-def _admitted(file: RuleFile) -> List[Query]:
+def _recorded_in_texts(file: RuleFile) -> Iterator[Rule]:
+    """What is recorded in files that are texts of this one, without the queries, which are those of this one as well."""
+    for text in file.texts:
+        for rule in rules_of(text.document) if isinstance(text.document, RuleFile) else ():
+            if rule.record:
+                place = text.at(rule.record_start), text.at(rule.record_end)
+                yield Rule(*place, False, rule.record, *place, "", [])
+
+
+def _admitted(file: Union[Dashboard, RuleFile]) -> List[Query]:
     """The queries of which the library is asked what is in them, for which it compiles their patterns."""
     return [query for query in file.queries if not query.skipped and file.checker.admits(query.text)]
 
@@ -142,7 +180,7 @@ def rules_at(file: RuleFile, offsets: Iterable[int]) -> Iterator[Optional[Rule]]
     starts = [node.start for node in nodes]
     for offset in offsets:
         number = bisect_right(starts, offset) - 1
-        end, is_whole = _end(nodes[number]) if number >= 0 else (0, False)
+        end, is_whole = end_of(nodes[number]) if number >= 0 else (0, False)
         yield _rule(file, nodes[number], end, is_whole, [], file.source.text) if offset < end else None
 
 
@@ -150,7 +188,7 @@ def _lone(query: PlacedQuery) -> Rule:
     return Rule(query.start, query.end, False, "", 0, 0, "", [query])
 
 
-def _end(rule: Node) -> Tuple[int, bool]:
+def end_of(rule: Node) -> Tuple[int, bool]:
     """Where the last scalar of a rule ends, and whether all of it is there, so that no part of it is an alias."""
     end, is_whole, todo, count = rule.start, not rule.anchor, [rule], 0
     while todo and count < _MOST_NODES:
@@ -209,14 +247,16 @@ def lines_before(lines: str) -> Optional[str]:
     return f"groups:\n- name: {NAME}\n  rules:\n" if lines.startswith("  ") and len(lines) <= _LONGEST_LINES else None
 
 
-def problems_of(text: str, lints: bool = False) -> Tuple[Optional[List[Rule]], List[Problem]]:
-    """The rules of a file, where it can be read, and what is wrong with it, or likely to be. In a file that is none of rules nothing is."""
+def problems_of(text: str, settings: Settings = Settings(lints=False), is_json: bool = False) -> Tuple[Optional[List[Rule]], List[Problem]]:
+    """The rules of a file, where it can be read, and what is wrong with it, or likely to be. In a file that has none nothing is."""
+    if is_json and not may_have_queries(text):
+        return [], []
     try:
-        file = file_of(text)
+        file = file_of(text, is_json)
     except RecursionError:
         return None, [Problem(0, 0, ERROR, "nested too deeply")]
     except FileError as error:
-        return None, [Problem(*(error.span or (0, 0)), ERROR, error.reason)] if GROUPS.search(text) else []
+        return None, [Problem(*(error.span or (0, 0)), ERROR, error.reason)] if is_json or GROUPS.search(text) else []
     if not file.is_known:
         return rules_of(file), []
     faults = file.checker.faults(file.queries) + file.faults
@@ -228,7 +268,7 @@ def problems_of(text: str, lints: bool = False) -> Tuple[Optional[List[Rule]], L
         faults.append(Fault(0, 0, str(error)))
     found = _problems(listed({*faults}, "errors"), ERROR)
     found += _problems(listed({*warnings}, "warnings"), WARNING)
-    found += lint_problems_of_file(file) if lints else []
+    found += lint_problems(file, settings.selection) if settings.lints else []
     rules = rules_of(file)
     left = _admitted(file)[sum(len(rule.queries) for rule in rules) :]
     message = f"what is in the queries is not told from here on: those of the file have more than {_MOST_TOKENS:,} tokens"

@@ -30,6 +30,12 @@ def spans_around(text: str, offset: int) -> List[Span]:
     return _nested(found, offset)
 
 
+def folds_of(text: str) -> List[Span]:
+    """What is in brackets, where it may be over several lines."""
+    closed = brackets_of(code_of(text)).closed if "\n" in text or "\r" in text else ()
+    return [(opening.sign.end, closing.start) for opening, closing in closed]
+
+
 def _parts(text: str) -> Iterator[Span]:
     """Matchers, what is in brackets, without these and with them, and nodes; or selectors and calls where the text is not accepted."""
     selectors, closed = selectors_of(text), brackets_of(code_of(text)).closed

@@ -14,38 +14,29 @@ import promql
 
 from ..files import FileError
 from ..queries import Edit
-from .documents import Document, diagnostics, query_problems
-from .features import ABOUT_ALL, ABOUT_PLACES, CAPABILITIES, Workspace, uri_of
+from .documents import TOO_LARGE, Document, diagnostics, query_problems
+from .features import ABOUT_ALL, ABOUT_PLACES, CAPABILITIES, Asking, Later, Workspace, text_edits, uri_of, where
 from .helper import Helper
 from .layout import LeftError, lines_edits, node_edits, query_edits
-from .messages import (
-    CONTENT_MODIFIED,
-    INTERNAL_ERROR,
-    INVALID_PARAMS,
-    INVALID_REQUEST,
-    METHOD_NOT_FOUND,
-    NOT_INITIALIZED,
-    REQUEST_CANCELLED,
-    REQUEST_FAILED,
-    BrokenStream,
-    Message,
-    ProtocolError,
-    decoded,
-    read_body,
-    write_message,
-)
+from .messages import CONTENT_MODIFIED, INTERNAL_ERROR, INVALID_PARAMS, INVALID_REQUEST, METHOD_NOT_FOUND
+from .messages import NOT_INITIALIZED, REQUEST_CANCELLED, REQUEST_FAILED, BrokenStream, Message
+from .messages import ProtocolError, decoded, member, read_body, write_message
 from .prometheus import Prometheus
-from .problems import ERROR, Problem
-from .settings import Settings
+from .problems import ERROR, WARNING, Problem
+from .settings import Settings, path_of
 from .work import FORMAT, READ, Done, Job
 
 # A rule file is read again when nothing was written in it for so many seconds.
 PAUSE = 0.15
 # A request about a text that is not read yet waits so many seconds for that.
 PATIENCE = 2.0
+# One for which a Prometheus is asked waits so many seconds for that.
+_PATIENCE_WITH_SERVER = 0.3
 _MOST_WAITING = 1_000
+_CODE_ACTION = "textDocument/codeAction"
+# What is answered at once, where the query is known of which the rest of the file is not read.
+_WHILE_TYPING = ("textDocument/completion", "textDocument/signatureHelp")
 _FORMATTINGS = ("textDocument/formatting", "textDocument/rangeFormatting")
-_LARGE = "larger than what the language server looks at"
 
 
 class End:
@@ -53,10 +44,11 @@ class End:
 
 
 class Waiting(NamedTuple):
-    """A request that waits for documents to be read."""
+    """A request that waits for documents to be read, or for what a Prometheus tells."""
 
     message: Message
     until: float
+    is_for_server: bool = False
 
 
 class Asked(NamedTuple):
@@ -65,6 +57,8 @@ class Asked(NamedTuple):
     document: Document
     text: str
     request: Optional[Union[int, str]] = None
+    # What is answered with what comes of it.
+    answer: Callable[[Any], Any] = lambda made: made
     # Whether all of the document is to be laid out.
     is_whole: bool = False
 
@@ -79,6 +73,9 @@ class Server:
         self._events: "queue.Queue[Any]" = queue.Queue(_MOST_WAITING)
         self._helper = Helper(self._events.put)
         self._workspace = Workspace(prometheus)
+        if prometheus:
+            # (a message that nobody handles, after which those that wait are looked at)
+            prometheus.report = lambda: self._events.put({"method": "$/told"})
         self._reader = threading.Thread(target=self._read, daemon=True)
         self._numbers = count(1)
         self._is_initialized = False
@@ -186,6 +183,9 @@ class Server:
     def _answer(self, request: Union[int, str], method: str, params: Any) -> None:
         try:
             result = self._result(request, method, params)
+        except Asking:
+            message = {"id": request, "method": method, "params": params}
+            self._waiting.append(Waiting(message, time.monotonic() + _PATIENCE_WITH_SERVER, True))
         except ProtocolError as error:
             self._refuse(request, error)
         except OSError:
@@ -212,16 +212,20 @@ class Server:
             return self._format(request, params, has_range=method.endswith("rangeFormatting"))
         if method not in ABOUT_PLACES:
             raise ProtocolError(METHOD_NOT_FOUND, f"unknown method: {method}")
-        return ABOUT_PLACES[method](self._workspace, params)
+        result = ABOUT_PLACES[method](self._workspace, params)
+        return self._ask_helper(request, result) if isinstance(result, Later) else result
 
     def _initialize(self, params: Any) -> Any:
         if self._is_initialized:
             raise ProtocolError(INVALID_REQUEST, "the server is initialized")
         self._is_initialized = True
-        at: Any = params
-        for name in ("capabilities", "textDocument", "completion", "completionItem", "snippetSupport"):
-            at = at.get(name) if isinstance(at, dict) else None
-        self._workspace.has_snippets = at is True
+        at = ("capabilities", "textDocument")
+        self._workspace.has_snippets = member(params, *at, "completion", "completionItem", "snippetSupport") is True
+        properties = member(params, *at, "codeAction", "resolveSupport", "properties")
+        self._workspace.resolves = isinstance(properties, list) and "edit" in properties
+        folders = member(params, "workspaceFolders")
+        uris = [member(it, "uri") for it in folders] if isinstance(folders, list) else [member(params, "rootUri")]
+        self._workspace.folders = [path for path in (path_of(uri) for uri in uris if isinstance(uri, str)) if path]
         self._settings = self._settings.with_options(params.get("initializationOptions") if isinstance(params, dict) else None)
         if self._workspace.prometheus:
             self._workspace.prometheus.known()
@@ -243,6 +247,7 @@ class Server:
         self._drop(uri)
         document = Document(uri, language if isinstance(language, str) else "", _version(item), text)
         self._workspace.documents[uri] = document
+        document.settings = self._settings.for_file(uri)
         self._look_at(document, at_once=True)
 
     def _change(self, params: Any) -> None:
@@ -266,14 +271,17 @@ class Server:
         """Tells what is wrong with a document, or sees to it that it is read."""
         self._unread.pop(document.uri, None)
         if document.is_large:
-            self._show(document, [Problem(0, 0, ERROR, _LARGE)])
+            self._show(document, [TOO_LARGE])
         elif document.is_rule_file:
             self._unread[document.uri] = time.monotonic() + (0 if at_once else PAUSE)
         else:
-            self._show(document, query_problems(document.text, self._settings.lints))
+            self._show(document, query_problems(document.text, document.settings))
 
     def _show(self, document: Document, problems: List[Problem]) -> None:
-        self._publish(document.uri, document.version, diagnostics(document, problems))
+        settings = document.settings
+        faults = [Problem(0, 0, WARNING, settings.fault)] if settings.fault else []
+        document.problems, document.is_told = faults + ([] if settings.is_left_out else problems), True
+        self._publish(document.uri, document.version, diagnostics(document, document.problems))
 
     def _publish(self, uri: str, version: Optional[int], found: List[Any]) -> None:
         params: Dict[str, Any] = {"uri": uri, "diagnostics": found}
@@ -287,28 +295,33 @@ class Server:
         document = self._workspace.document(params)
         span = document.lines.span(params.get("range")) if has_range else None
         if document.is_large:
-            raise ProtocolError(REQUEST_FAILED, _LARGE)
+            raise ProtocolError(REQUEST_FAILED, TOO_LARGE.message)
         if document.is_rule_file:
             edits = self._few_edits(document, span)
-            if edits is not None:
-                return _text_edits(document, edits)
-            job = Job(next(self._numbers), FORMAT, document.text, self._settings, span)
-            self._jobs.append((job, Asked(document, document.text, request, span is None)))
-            return End()
+            later = Later(document, FORMAT, span, lambda made: text_edits(document, made))
+            return self._ask_helper(request, later, span is None) if edits is None else text_edits(document, edits)
         try:
-            edits = node_edits(document.text, span) if span else query_edits(document.text)
+            width = document.settings.width
+            edits = node_edits(document.text, span, width) if span else query_edits(document.text, width)
         except (LeftError, ValueError) as error:
             raise ProtocolError(REQUEST_FAILED, str(error)) from error
-        return _text_edits(document, edits)
+        return text_edits(document, edits)
+
+    def _ask_helper(self, request: Union[int, str], later: Later, is_whole: bool = False) -> End:
+        document = later.document
+        kinds = document.is_json, not document.is_rule_file
+        job = Job(next(self._numbers), later.kind, document.text, document.settings, later.wanted, *kinds)
+        self._jobs.append((job, Asked(document, document.text, request, later.answer, is_whole)))
+        return End()
 
     def _few_edits(self, document: Document, span: Optional[Tuple[int, int]]) -> Optional[List[Edit]]:
         """The edits of few rules, which are made at once."""
-        if not document.is_read:
+        if not document.is_read or document.is_json:
             return None
         try:
             if span:
-                return lines_edits(document.text, document.rules, span, self._settings.style)
-            return document.layouts.edits(document.text, document.rules, self._settings.style)
+                return lines_edits(document.text, document.rules, span, document.settings)
+            return document.layouts.edits(document.text, document.rules, document.settings)
         except (LeftError, FileError, ValueError):
             # (told by the helper)
             return None
@@ -323,15 +336,15 @@ class Server:
         document = asked.document
         is_current = document.text == asked.text and self._workspace.documents.get(document.uri) is document
         if asked.request is not None:
-            self._finish_request(asked.request, done, document, is_current)
+            self._finish_request(asked.request, done, asked.answer, is_current)
             if asked.is_whole and is_current and document.is_read and done.result is not None:
                 document.layouts.learn(document.text, document.rules, done.result)
         elif is_current:
-            rules, problems = done.result if done.result else (None, [Problem(0, 0, ERROR, done.failure)])
-            document.settle(rules)
+            rules, problems, groups = done.result if done.result else (None, [Problem(0, 0, ERROR, done.failure)], [])
+            document.settle(rules, groups)
             self._show(document, problems)
 
-    def _finish_request(self, request: Union[int, str], done: Done, document: Document, is_current: bool) -> None:
+    def _finish_request(self, request: Union[int, str], done: Done, answer: Callable[[Any], Any], is_current: bool) -> None:
         if request in self._cancelled:
             self._cancelled.discard(request)
             self._refuse(request, ProtocolError(REQUEST_CANCELLED, "cancelled"))
@@ -340,7 +353,7 @@ class Server:
         elif done.result is None:
             self._refuse(request, ProtocolError(REQUEST_FAILED, done.failure))
         else:
-            self._write({"id": request, "result": _text_edits(document, done.result)})
+            self._write({"id": request, "result": answer(done.result)})
 
     def _look_around(self) -> None:
         """Gives the helper its next job, ends one that takes too long, and serves what waited long enough."""
@@ -352,22 +365,28 @@ class Server:
         if not self._helper.job:
             self._begin_job()
         now = time.monotonic()
-        ready = [it for it in self._waiting if it.until <= now or not self._waits(it.message)]
+        is_asking = self._workspace.is_asking
+        ready = [it for it in self._waiting if it.until <= now or not (is_asking if it.is_for_server else self._waits(it.message))]
         self._waiting = [it for it in self._waiting if it not in ready]
         for it in ready:
+            self._workspace.is_patient = not it.is_for_server
             self._answer(it.message["id"], it.message["method"], it.message.get("params"))
+        self._workspace.is_patient = True
 
     def _begin_job(self) -> None:
         if self._jobs:
             job, asked = self._jobs.pop(0)
         else:
             now = time.monotonic()
-            uri = next((uri for uri, since in self._unread.items() if since <= now or self._waiting), None)
+            is_waited_for = any(not it.is_for_server for it in self._waiting)
+            uri = next((uri for uri, since in self._unread.items() if since <= now or is_waited_for), None)
             document = self._workspace.documents.get(uri) if uri is not None else None
             if uri is None or not document:
                 return
             del self._unread[uri]
-            job, asked = Job(next(self._numbers), READ, document.text, self._settings), Asked(document, document.text)
+            document.settings = self._settings.for_file(uri)
+            job = Job(next(self._numbers), READ, document.text, document.settings, is_json=document.is_json)
+            asked = Asked(document, document.text)
         self._asked[job.number] = asked
         self._helper.submit(job)
 
@@ -377,6 +396,8 @@ class Server:
         times = [it.until - now for it in self._waiting]
         if self._helper.job:
             times.append(0.25)
+        elif self._jobs:
+            times.append(0.0)
         elif self._unread:
             times.append(min(self._unread.values()) - now)
         return max(min(times), 0.0) if times else None
@@ -388,9 +409,11 @@ class Server:
             return False
         try:
             documents = self._workspace.all if method in ABOUT_ALL else [self._workspace.document(message.get("params"))]
+            if method in _WHILE_TYPING and documents[0].rules and where(self._workspace, message.get("params")).place:
+                return False
         except ProtocolError:
             return False
-        return not all(document.is_settled for document in documents)
+        return not all(document.is_told if method == _CODE_ACTION else document.is_settled for document in documents)
 
     def _cancel(self, params: Any) -> None:
         request = _cancelled_id({"params": params})
@@ -405,15 +428,10 @@ class Server:
 
 
 def _cancelled_id(message: Message) -> Union[int, str]:
-    params = message.get("params")
-    request = params.get("id") if isinstance(params, dict) else None
+    request = member(message, "params", "id")
     return request if isinstance(request, (int, str)) else ""
 
 
 def _version(holder: Any) -> int:
-    version = holder.get("version") if isinstance(holder, dict) else None
+    version = member(holder, "version")
     return version if isinstance(version, int) else 0
-
-
-def _text_edits(document: Document, edits: List[Edit]) -> List[Any]:
-    return [{"range": document.lines.range(edit.start, edit.end), "newText": edit.text} for edit in edits]

@@ -4,25 +4,31 @@ from __future__ import annotations
 
 import pickle
 import struct
-from typing import IO, Any, NamedTuple, Optional, Tuple
+from typing import IO, Any, Callable, Dict, NamedTuple
 
 from ..files import FileError
+from .findings import fix_edits, given_query
 from .layout import LeftError, rule_file_edits
-from .rules import problems_of
+from .navigation import changes_in_folders
+from .outline import groups_of
+from .rules import file_of, problems_of
 from .settings import Settings
 
-READ, FORMAT = "read", "format"
+READ, FORMAT, FIX, RENAME = "read", "format", "fix", "rename"
 _LENGTH = struct.Struct(">Q")
 
 
 class Job(NamedTuple):
-    """What is to be done with a text."""
+    """What is to be done with a text: that of a file with queries, or that of a query."""
 
     number: int
     kind: str
     text: str
     settings: Settings
-    span: Optional[Tuple[int, int]] = None
+    # The part that is laid out, the fixes that are made, or what is renamed.
+    wanted: Any = None
+    is_json: bool = False
+    is_query: bool = False
 
 
 class Done(NamedTuple):
@@ -48,11 +54,28 @@ def receive(stream: IO[bytes]) -> Any:
     return pickle.loads(data)
 
 
+def _read(job: Job) -> Any:
+    rules, problems = problems_of(job.text, job.settings, job.is_json)
+    # (what cannot be read is not read again for its groups)
+    return rules, problems, groups_of(file_of(job.text, job.is_json)) if rules else []
+
+
+def _fix(job: Job) -> Any:
+    file = given_query(job.text) if job.is_query else file_of(job.text, job.is_json)
+    return fix_edits(file, job.settings.selection, job.wanted)
+
+
+_WORK: Dict[str, Callable[[Job], Any]] = {
+    READ: _read,
+    FORMAT: lambda job: rule_file_edits(job.text, job.wanted, job.settings, job.is_json),
+    FIX: _fix,
+    RENAME: lambda job: changes_in_folders(job.wanted),
+}
+
+
 def work(job: Job) -> Done:
     try:
-        if job.kind == READ:
-            return Done(job.number, problems_of(job.text, job.settings.lints))
-        return Done(job.number, rule_file_edits(job.text, job.span, job.settings.style))
+        return Done(job.number, _WORK[job.kind](job))
     except (LeftError, FileError, ValueError) as error:
         return Done(job.number, None, str(error).partition("\n")[0] or "left as it is")
     except (MemoryError, RecursionError) as error:
