@@ -42,7 +42,6 @@ WRONG_WORDS = (
     (("lint", "--selekt", "P1"), "no option is called --selekt: did you mean --select?"),
     (("lint", "--jobs=x", "a.yml"), "argument --jobs: not a number from 1 to 256: 'x'"),
     (("metrics", "--output", "jsn", "a.yml"), "argument --output: 'jsn' is none of text, json: did you mean json?"),
-    (("metrics",), "no FILE is named"),
     (("metrics", "--prometheus", "localhost", "a.yml"), "not the URL of a server, `http://HOST:PORT`: localhost"),
     (("lsp", "--no-lnt"), "no option is called --no-lnt: did you mean --no-lint?"),
     (("lsp", "a.yml"), "too many arguments: 'a.yml'"),
@@ -109,10 +108,10 @@ class EachCommand(unittest.TestCase):
 
     def test_without_a_file(self):
         """Standard input is read, as by `promql`: a file for those that check files, and for `lint` a query."""
-        for words, given in zip(OVER_FILES, (FINE, FINE, "up == 0")):
+        for words, given in zip(OVER_FILES, (FINE, FINE, "up == 0", FINE)):
             self.assertEqual(run(*words, stdin=given.encode()).status, 0, words)
         self.assertEqual(run("format", stdin=MESSY.encode()), (0, FINE, ""))
-        for words, given, rejected in zip(OVER_FILES, (WRONG, WRONG, "up =="), (4, 4, 1)):
+        for words, given, rejected in zip(OVER_FILES, (WRONG, WRONG, "up ==", WRONG), (4, 4, 1, 4)):
             ran = run(*words, stdin=given.encode())
             self.assertEqual(ran.status, rejected, words)
             self.assertRegex(ran.err + ran.out, "(?m)^<stdin>:[15]:[16]")
