@@ -531,7 +531,9 @@ class Checks(Folder):
             (4, (("check", fine, wrong), ("format", "--check", messy, wrong), ("format", wrong))),
             (19, (("format", "--check", fine, messy), ("format", "--diff", messy))),
             (2, (("check", none, wrong), ("check", wrong, none), ("format", "--write", none))),
-            (64, (("format", "--check", "--write", fine), ("check", "--variable", "a", fine), (), ("check",), ("other",))),
+            (64, (("format", "--check", "--write", fine), ("check", "--variable", "a", fine), (), ("other",))),
+            # (standard input is empty here)
+            (66, (("check",),)),
         ):
             for arguments in commands:
                 self.assertEqual(run(*arguments).status, status, arguments)
