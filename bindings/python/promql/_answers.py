@@ -102,13 +102,20 @@ class Calls(Protocol):
 
 
 def library_path() -> Path:
-    """The library of the variable PROMQL_LIBRARY, that of the package, or in a checkout that of its dist/."""
+    """The library of the variable PROMQL_LIBRARY, that of the package, or in a checkout that of its dist/.
+
+    Raises ImportError where none is for the processor of this machine."""
     named = os.environ.get("PROMQL_LIBRARY")
-    return Path(named) if named else packaged("libpromql.so")
+    if named:
+        return Path(named)
+    path = packaged("libpromql.so")
+    if not path.is_file():
+        raise ImportError(f"no release of promql is for the processor {os.uname().machine}: there is no {path}")
+    return path
 
 
 def packaged(name: str) -> Path:
-    """A file that was built for the package: beside this one, or in a checkout in its dist/."""
+    """A file that was built for the package: beside this one, or in a checkout in its dist/ for the processor of this machine."""
     here = Path(__file__).resolve()
     own = here.with_name(name)
-    return own if own.is_file() else here.parents[3] / "dist" / name
+    return own if own.is_file() else here.parents[3] / "dist" / os.uname().machine / name
