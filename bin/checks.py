@@ -1,4 +1,14 @@
-"""What the test scripts in Python share: they count checks, and their last line is 'N passed, M failed'."""
+"""What the test scripts in Python share: they count checks, their last line is 'N passed, M failed', and they find what dist/ has."""
+
+import platform
+from pathlib import Path
+
+ROOT = Path(__file__).resolve().parent.parent
+
+
+def released(name: str) -> Path:
+    """A file of dist/ for the processor of this machine."""
+    return ROOT / "dist" / platform.machine() / name
 
 
 class Checks:

@@ -16,6 +16,63 @@ exec_bound() {
     exec "$@"
 }
 
+# The processors that a release is for: each has a folder in dist/, by the name that `uname -m` gives it. The first one is the kit's.
+processor_names() {
+    echo x86_64
+    echo aarch64
+}
+
+# this_processor: the name of this machine's, or a message and a failure where no release is for it.
+this_processor() {
+    local name
+    name=$(uname -m)
+    if ! processor_names | grep -qxF "$name"; then
+        echo "no release is for the processor $name: there are those for $(processor_names | paste -sd, | sed 's/,/ and /')" >&2
+        return 1
+    fi
+    echo "$name"
+}
+
+# target_of PROCESSOR: how the prover names what is built for it.
+target_of() {
+    echo "$1-unknown-linux-gnu"
+}
+
+# tools_for PROCESSOR: what the names of the linker's tools begin with; nothing for this machine's own.
+tools_for() {
+    if [ "$1" != "$(uname -m)" ]; then echo "$1-linux-gnu-"; fi
+}
+
+# compiler_for PROCESSOR: the C compiler, or a message and a failure where there is none here.
+compiler_for() {
+    local compiler
+    compiler=$(tools_for "$1")
+    compiler=${compiler:+${compiler}gcc}
+    compiler=${compiler:-${CC:-cc}}
+    if ! command -v "$compiler" >/dev/null; then
+        echo "there is no $compiler, the C compiler for $1, which Debian has in gcc-${1/_/-}-linux-gnu" >&2
+        return 1
+    fi
+    echo "$compiler"
+}
+
+# kit_code PROCESSOR FOLDER NAME/FILE..: what has the functions of C that the proved code calls, a file a line: of each pair the kit's
+# archive lib NAME.a, or, for another processor than the kit's, bin/FILE.c, which is compiled in the folder.
+kit_code() {
+    local pair processor=$1 folder=$2 compiler
+    shift 2
+    compiler=$(compiler_for "$processor") || return
+    for pair in "$@"; do
+        if [ "$processor" = "$(processor_names | head -n 1)" ]; then
+            echo "$(kit_folder)/c/lib${pair%/*}.a"
+        else
+            "$compiler" -std=c11 -O2 -fPIC -fno-ident -fstack-clash-protection -Wall -Wextra -Wpedantic -Werror -c \
+                -o "$folder/${pair#*/}.o" "$root/bin/${pair#*/}.c" || return
+            echo "$folder/${pair#*/}.o"
+        fi
+    done
+}
+
 # The crates of crates.txt that are programs, in the file's order.
 program_names() {
     local name
@@ -84,12 +141,26 @@ fingerprint() {
     ) | sha256sum | cut -d' ' -f1
 }
 
+# release_fingerprint KIT: the checksum of what the programs of dist/ are made from: all programs, as above, and the C for ARM.
+release_fingerprint() {
+    local sum
+    local -a programs
+    mapfile -t programs < <(program_names)
+    sum=$(fingerprint "$1" "${programs[@]}") || return
+    (
+        cd "$root" || exit
+        printf '%s\n' "$sum"
+        sha256sum bin/kit_heap.c bin/kit_process.c
+    ) | sha256sum | cut -d' ' -f1
+}
+
 # The SONAME of libpromql.so, which has a number (docs/RELEASE.md, "The number of the shared library").
 library_soname() {
     sed -n 's/^soname=//p' "$root/bindings/c/promql.pc"
 }
 
-# library_fingerprint KIT: the checksum of what the library for C is made from: its crate, as above, and its files of bindings/c.
+# library_fingerprint KIT: the checksum of what the library for C is made from: its crate, as above, its files of bindings/c, and the heap
+# for ARM.
 library_fingerprint() {
     local sum
     local -a crates
@@ -98,7 +169,7 @@ library_fingerprint() {
     (
         cd "$root" || exit
         printf '%s\n' "$sum"
-        sha256sum bindings/c/promql.c bindings/c/promql.h bindings/c/promql.map bindings/c/promql.pc
+        sha256sum bindings/c/promql.c bindings/c/promql.h bindings/c/promql.map bindings/c/promql.pc bin/kit_heap.c
     ) | sha256sum | cut -d' ' -f1
 }
 
@@ -112,11 +183,22 @@ python_headers() {
     "${PYTHON:-python3}" -c 'import sysconfig; print(sysconfig.get_path("include"))'
 }
 
-# What the extension is made with here, which decides its bytes: the C compiler, and the version of Python's headers.
+# What the extension is made with here, which decides its bytes: the C compilers, and the version of Python's headers.
 extension_tools() {
-    local headers
+    local headers processor compiler
+    for processor in $(processor_names); do
+        compiler=$(compiler_for "$processor" 2>/dev/null) && printf '%s, ' "$("$compiler" --version | head -n 1)"
+    done
     headers=$(python_headers)
-    printf '%s, %s\n' "$("${CC:-cc}" --version | head -n 1)" "${headers##*/}"
+    printf '%s\n' "${headers##*/}"
+}
+
+# link_tools PROCESSOR: what a program is linked with here, which decides its bytes: the C compiler, its linker, and the C library.
+link_tools() {
+    local compiler
+    compiler=$(compiler_for "$1") || return
+    printf '%s: %s, %s, libc.a %.16s\n' "$1" "$("$compiler" --version | head -n 1)" "$("$(tools_for "$1")ld" --version | head -n 1)" \
+        "$(file_sum "$("$compiler" -print-file-name=libc.a)")"
 }
 
 # The folder of the kit that has the command rt.
@@ -134,8 +216,8 @@ kit_line() {
     cat "$kit/KIT-ID" 2>/dev/null || rt version
 }
 
-# write_made_from FILE KIT PROGRAM-FILE..: what these programs were made from: the checksum, the kit's line, and a line with
-# the checksum of each program.
+# write_made_from FILE KIT PROGRAM-FILE..: what these programs, which are beside FILE, were made from: the checksum, the kit's line, and a
+# line with the checksum of each program.
 write_made_from() {
     local file=$1 kit=$2 program
     local -a names=()
@@ -151,13 +233,49 @@ write_library_made_from() {
     write_sums "$file" "$(library_fingerprint "$kit")" "$kit" "$@"
 }
 
-# write_sums FILE SUM KIT MADE-FILE..: the two lines, and a line with the checksum of each file that was made.
+# write_release_made_from FILE KIT PROGRAM-FILE..: the same for the programs of dist/, whose files are named by their places beside FILE.
+# Below are the checksums of what was built of the proved code, by its place in crates/, and what the programs were linked with.
+write_release_made_from() {
+    local file=$1 kit=$2 program built processor
+    shift 2
+    write_sums "$file" "$(release_fingerprint "$kit")" "$kit" "$@"
+    {
+        for program in $(program_names); do
+            for built in $(built_files "$program"); do
+                printf '%s  %s\n' "$(file_sum "$root/$built")" "$built"
+            done
+        done
+        for processor in $(processor_names); do link_tools "$processor"; done
+    } >>"$file"
+}
+
+# built_files PROGRAM: what bin/prove builds of it: as the kit links it, and its object for each processor.
+built_files() {
+    printf 'crates/%s/out/%s\n' "$1" "$1"
+    built_object "$1" x86_64
+    built_object "$1" aarch64
+}
+
+# built_object NAME PROCESSOR, built_archive NAME PROCESSOR: where bin/prove leaves the object of a program, and a static library.
+built_object() {
+    printf 'crates/%s/out/%s%s.o\n' "$1" "$(place_for "$2")" "$1"
+}
+
+built_archive() {
+    printf 'crates/%s/out/%slib%s.a\n' "$1" "$(place_for "$2")" "$1"
+}
+
+place_for() {
+    if [ "$1" != "$(processor_names | head -n 1)" ]; then echo "$1/"; fi
+}
+
+# write_sums FILE SUM KIT MADE-FILE..: the two lines, and a line with the checksum of each file that was made, by its place beside FILE.
 write_sums() {
     local file=$1 made
     printf '%s\n' "$2" "$3" >"$file.new"
     shift 3
     for made in "$@"; do
-        printf '%s  %s\n' "$(file_sum "$made")" "${made##*/}" >>"$file.new"
+        printf '%s  %s\n' "$(file_sum "$made")" "${made#"${file%/*}/"}" >>"$file.new"
     done
     mv -f "$file.new" "$file"
 }
@@ -182,9 +300,9 @@ why_other() {
     fi
 }
 
-# is_listed FILE MADE-FILE: whether FILE has the checksum of this file.
+# is_listed FILE MADE-FILE [FOLDER]: whether FILE has the checksum of this file, by its place beside FILE or in another folder.
 is_listed() {
-    tail -n +3 "$1" | grep -qxF "$(file_sum "$2")  ${2##*/}"
+    tail -n +3 "$1" | grep -qxF "$(file_sum "$2")  ${2#"${3:-${1%/*}}/"}"
 }
 
 # why_stale FILE PROGRAM-FILE KIT CRATE..: why the program isn't what FILE says was made from these crates as they are
@@ -200,11 +318,21 @@ why_stale() {
     fi
 }
 
-# The same for a program of dist/.
+# why_release_stale NAME KIT [PROCESSOR]: the same for a program of dist/, for this machine or another processor.
 why_release_stale() {
-    local -a programs
-    mapfile -t programs < <(program_names)
-    why_stale "$root/dist/MADE_FROM" "$root/dist/$1" "$2" "${programs[@]}"
+    local processor file=$root/dist/MADE_FROM program why="there is no release of it here"
+    processor=${3:-$(uname -m)}
+    program=$root/dist/$processor/$1
+    if [ -x "$program" ]; then
+        why=$(why_other "$file" "$2" release_fingerprint)
+    elif ! processor_names | grep -qxF "$processor"; then
+        why="no release is for the processor $processor"
+    fi
+    if [ -n "$why" ]; then
+        echo "$why"
+    elif ! is_listed "$file" "$program"; then
+        echo "$1 is not the program that was released"
+    fi
 }
 
 # release_listing NAME KIT: the kit's line, and for each file that decides which program of this name is run its path, its size, its inode and
@@ -213,8 +341,9 @@ release_listing() {
     printf '%s\n' "$2"
     (
         cd "$root" || exit
-        find bin/lib.sh bin/run_program HANDLES crates.txt dist/MADE_FROM "dist/$1" "crates/$1/out/$1" "crates/$1/out/$1.made_from" \
-            crates/*/src crates/*/specs crates/*/proofs -type f -printf '%p %s %i %C@\n' 2>/dev/null
+        find bin/lib.sh bin/run_program bin/kit_heap.c bin/kit_process.c HANDLES crates.txt dist/MADE_FROM "dist/$(uname -m)/$1" \
+            "crates/$1/out/$1" "crates/$1/out/$1.made_from" crates/*/src crates/*/specs crates/*/proofs \
+            -type f -printf '%p %s %i %C@\n' 2>/dev/null
     )
 }
 
@@ -236,9 +365,10 @@ write_stamp() {
     fi
 }
 
-# why_extension_stale: the same for the extension for Python of dist/.
+# why_extension_stale [PROCESSOR]: the same for the extension for Python of dist/.
 why_extension_stale() {
-    local made=$root/dist/_native.made_from extension=$root/dist/_native.abi3.so why
+    local made=$root/dist/_native.made_from extension why
+    extension=$root/dist/${1:-$(uname -m)}/_native.abi3.so
     why=$(why_other "$made" '' extension_fingerprint)
     if [ -z "$why" ] && ! { [ -f "$extension" ] && is_listed "$made" "$extension"; }; then
         why="_native.abi3.so is not the file that was released"
@@ -246,13 +376,18 @@ why_extension_stale() {
     printf '%s' "$why"
 }
 
-# why_library_stale KIT: the same for the library for C of dist/.
+# library_files PROCESSOR: the files of the library for C, by their places in dist/.
+library_files() {
+    printf '%s\n' "$1/libpromql.a" "$1/libpromql.so" "$1/$(library_soname)" promql.h
+}
+
+# why_library_stale KIT [PROCESSOR]: the same for the library for C of dist/.
 why_library_stale() {
     local made=$root/dist/libpromql.made_from name why
     why=$(why_other "$made" "$1" library_fingerprint)
-    for name in libpromql.a libpromql.so "$(library_soname)" promql.h; do
+    for name in $(library_files "${2:-$(uname -m)}"); do
         if [ -z "$why" ] && ! { [ -f "$root/dist/$name" ] && is_listed "$made" "$root/dist/$name"; }; then
-            why="$name is not the file that was released"
+            why="${name##*/} is not the file that was released"
         fi
     done
     printf '%s' "$why"

@@ -26,9 +26,8 @@ from typing import NamedTuple
 
 ROOT = Path(__file__).resolve().parent.parent
 sys.path.insert(0, str(ROOT / "bin"))
-from checks import Checks  # noqa: E402
+from checks import Checks, released  # noqa: E402
 
-DIST = ROOT / "dist"
 MATCHER = 'tenant="a"'
 # What one attack may take: processor seconds, the same by the clock four times over, and MB of memory. (What has to take longer, where
 # promql has no limits, is held against what a part of it takes on the same machine.)
@@ -149,7 +148,7 @@ REJECTED = {
 }
 
 
-PROMQL = DIST / "promql"
+PROMQL = released("promql")
 # The subcommands that read one query, with their words.
 SUBCOMMANDS = (("line",), ("pretty",), ("json",), ("enforce", MATCHER), ("check",))
 
@@ -223,7 +222,7 @@ def attack_by_rejected_queries():
 
 def attack_by_patterns():
     """Programs with limits reject these. promql has none and reads them, in the memory that one of their patterns takes."""
-    one = [run([DIST / "promql", "line"], matchers(1, DEAR_PATTERN)).seconds for _ in range(5)]
+    one = [run([PROMQL, "line"], matchers(1, DEAR_PATTERN)).seconds for _ in range(5)]
     allowed = SECONDS + 2 * MANY * sum(one) / len(one)
     for name, (query, said) in LARGE_PATTERNS.items():
         for program, ran in program_runs(query, seconds=math.ceil(allowed), memory=128):
@@ -267,7 +266,7 @@ def form_of_selector(count, pattern):
 
 def knows_tree_limits():
     """Whether the library of dist/ has a limit of the length of a tree."""
-    return b"promql_set_max_tree" in (DIST / "libpromql.so").read_bytes()
+    return b"promql_set_max_tree" in released("libpromql.so").read_bytes()
 
 
 def attack_by_trees():

@@ -8,6 +8,7 @@ set -u
 here=$(cd "$(dirname "$0")" && pwd)
 root=${here%/*}
 dist=$root/dist
+made=$dist/$(uname -m)
 queries=$root/bench/queries/queries.txt
 work=$(mktemp -d)
 trap 'rm -rf "$work"' EXIT
@@ -105,8 +106,8 @@ elif has rt 'within Rattle' && "$root/bench/run.sh" queries >"$work/inner"; then
     measure instructions 'within Rattle' within_rattle instructions
 fi
 if has "${CC:-cc}" C; then
-    measure nanoseconds 'C, libpromql.a' from_c static "$dist/libpromql.a"
-    measure nanoseconds 'C, libpromql.so' from_c shared -L"$dist" -lpromql -Wl,-rpath,"$dist"
+    measure nanoseconds 'C, libpromql.a' from_c static "$made/libpromql.a"
+    measure nanoseconds 'C, libpromql.so' from_c shared -L"$made" -lpromql -Wl,-rpath,"$made"
     if has valgrind 'instructions from C'; then measure instructions 'C, libpromql.a' instructions_from_c; fi
 fi
 if has cargo Rust; then measure nanoseconds Rust from_rust; fi

@@ -2,7 +2,7 @@
 """Runs the examples that change queries, change_queries of each language, on the queries of the rows that have one line, and compares what
 they print.
 
-usage: bindings/change_queries.py PROGRAM..   with dist/promql. The last line is 'N passed, M failed'
+usage: bindings/change_queries.py PROGRAM..   with the program of dist/. The last line is 'N passed, M failed'
 
 Queries that call `info`, have a matcher of `__name__` or are read otherwise by a Prometheus are left out: the one for C puts the matcher in
 by `promql_enforce`, and lists what `promql_collect` does.
@@ -14,7 +14,7 @@ import sys
 
 import rows
 import trees
-from checks import print_counts
+from checks import print_counts, released
 
 WORDS = ("tenant", "team-a", "foo", "foo_total", "job")
 NO = "not changed"
@@ -32,7 +32,7 @@ CHANGED = (
 def answers(mode, queries):
     """What promql batch answers to each query, or other request, in a mode."""
     asked = "".join(json.dumps(query) + "\n" for query in queries)
-    command = [rows.ROOT / "dist" / "promql", "batch", mode, "--max-len", str(rows.MAX_LEN)]
+    command = [released("promql"), "batch", mode, "--max-len", str(rows.MAX_LEN)]
     ran = subprocess.run(command, input=asked.encode(), stdout=subprocess.PIPE, timeout=60)
     return [json.loads(answer) for answer in ran.stdout.splitlines()]
 

@@ -13,10 +13,10 @@ from pathlib import Path
 
 ROOT = Path(__file__).resolve().parent.parent
 sys.path.insert(0, str(ROOT / "bin"))
-from checks import Checks  # noqa: E402
+from checks import Checks, released  # noqa: E402
 
 GUIDE = ROOT / "docs/guide/formatter.md"
-ENVIRONMENT = {**os.environ, "PATH": f"{ROOT / 'dist'}{os.pathsep}{os.environ['PATH']}"}
+ENVIRONMENT = {**os.environ, "PATH": f"{released('promql').parent}{os.pathsep}{os.environ['PATH']}"}
 QUERY = 'sum by(job)(rate(errors_total{code=~"5..",job="api"}[5m]))\n/ on (job)\n# all\nsum(rate(requests_total{job="api"}[5m]))by(job)\n'
 LAID_OUT = (
     '  sum by (job) (rate(errors_total{code=~"5..",job="api"}[5m]))\n'

@@ -13,10 +13,14 @@
 #                                these are installed (docs/guide/proxy.md)
 # bindings/test.sh --editor      tries the language server in Neovim, in Emacs, and with the extension for VS Code, in half a minute,
 #                                where nvim, emacs and node are installed (docs/guide/editor.md)
+# bindings/test.sh --arm         runs what dist/ has for ARM under qemu, in ten minutes: the program as bin/test does, and the library from C
+#                                and Go, where qemu-aarch64-static and aarch64-linux-gnu-gcc are installed; and the programs of both
+#                                processors in a root that has nothing else (docs/RELEASE.md, "Processors")
 set -u
 here=$(cd "$(dirname "$0")" && pwd)
 root=${here%/*}
 dist=$root/dist
+made=$dist/$(uname -m)
 queries=$root/bench/queries/queries.txt
 # shellcheck source=bin/lib.sh
 . "$root/bin/lib.sh"
@@ -24,15 +28,18 @@ passed=0
 failed=0
 work=$(mktemp -d)
 trap 'rm -rf "$work"' EXIT
-export here root dist queries work PYTHONDONTWRITEBYTECODE=1
+export here root dist made queries work PYTHONDONTWRITEBYTECODE=1
 # shellcheck source=bindings/test_python.sh
 . "$here/test_python.sh"
 # shellcheck source=bindings/test_install.sh
 . "$here/test_install.sh"
+# shellcheck source=bindings/test_arm.sh
+. "$here/test_arm.sh"
 
-# limited COMMAND..: runs a command, or one of the functions that are exported below, which ends in four minutes at the latest.
+# limited COMMAND..: runs a command, or one of the functions that are exported below, which ends in four minutes at the latest, or in as
+# many seconds as the variable `most` says.
 limited() {
-    timeout 240 bash -c '"$@"' limited "$@" >"$work/said" 2>&1
+    timeout "${most:-240}" bash -c '"$@"' limited "$@" >"$work/said" 2>&1
 }
 
 # try NAME COMMAND..: counts whether the command ends with 0, and prints what it said where it does not.
@@ -110,13 +117,15 @@ install_missing() {
     command -v cc >/dev/null || missing+=(gcc libc6-dev)
     command -v valgrind >/dev/null || missing+=(valgrind)
     command -v musl-gcc >/dev/null || missing+=(musl-tools)
+    command -v qemu-aarch64-static >/dev/null || missing+=(qemu-user-static)
+    command -v aarch64-linux-gnu-gcc >/dev/null || missing+=(gcc-aarch64-linux-gnu)
     command -v make >/dev/null || missing+=(make)
     command -v groff >/dev/null || missing+=(groff)
     command -v fish >/dev/null || missing+=(fish)
     command -v zsh >/dev/null || missing+=(zsh)
     python_with_yaml >/dev/null || missing+=(python3-ruamel.yaml)
     python_with_schemas >/dev/null || missing+=(python3-jsonschema)
-    python_with_setuptools >/dev/null || missing+=(python3-pip python3-setuptools python3-wheel python3-venv)
+    python_with_pip >/dev/null || missing+=(python3-pip python3-venv)
     [ -f "$(python_headers)/Python.h" ] || missing+=(python3-dev)
     has_libyaml "$(python_with_yaml || echo /usr/bin/python3)" || missing+=(python3-yaml)
     python3 -c 'import pytest' 2>/dev/null || missing+=(python3-pytest)
@@ -143,8 +152,8 @@ shows_own_names() {
 
 test_names() {
     has nm 'the names that the libraries show' || return
-    try 'the names of libpromql.so' shows_own_names --dynamic "$dist/libpromql.so"
-    try 'the names of libpromql.a' shows_own_names "$dist/libpromql.a"
+    try 'the names of libpromql.so' shows_own_names --dynamic "$made/libpromql.so"
+    try 'the names of libpromql.a' shows_own_names "$made/libpromql.a"
 }
 
 # ---- C
@@ -152,12 +161,12 @@ test_names() {
 build_c() {
     local cc=${CC:-cc}
     local -a flags=(-O2 -Wall -Wextra -Wpedantic -Werror -I"$dist") tests=("$here/c/tests/test_promql.c" -pthread)
-    "$cc" -std=c11 "${flags[@]}" -o "$work/test_static" "${tests[@]}" "$dist/libpromql.a" &&
-        "$cc" -std=c11 "${flags[@]}" -o "$work/test_shared" "${tests[@]}" -L"$dist" -lpromql -Wl,-rpath,"$dist" &&
-        "$cc" -std=c11 "${flags[@]}" -o "$work/test_memory" "$here/c/tests/test_memory.c" "$dist/libpromql.a" \
+    "$cc" -std=c11 "${flags[@]}" -o "$work/test_static" "${tests[@]}" "$made/libpromql.a" &&
+        "$cc" -std=c11 "${flags[@]}" -o "$work/test_shared" "${tests[@]}" -L"$made" -lpromql -Wl,-rpath,"$made" &&
+        "$cc" -std=c11 "${flags[@]}" -o "$work/test_memory" "$here/c/tests/test_memory.c" "$made/libpromql.a" \
             -Wl,--wrap=malloc,--wrap=realloc,--wrap=pthread_getattr_np &&
-        "$cc" -std=c11 "${flags[@]}" -o "$work/bench" "$here/c/bench.c" "$dist/libpromql.a" &&
-        "$cc" -std=c99 "${flags[@]}" -o "$work/example" "$here/c/example.c" "$dist/libpromql.a"
+        "$cc" -std=c11 "${flags[@]}" -o "$work/bench" "$here/c/bench.c" "$made/libpromql.a" &&
+        "$cc" -std=c99 "${flags[@]}" -o "$work/example" "$here/c/example.c" "$made/libpromql.a"
 }
 
 # bench_prints COMMAND..: whether a program of bench.sh prints its four figures.
@@ -186,10 +195,10 @@ has_sanitizers() {
 
 build_sanitized() {
     local -a sanitized=("${CC:-cc}" -std=c11 -g -O1 "-fsanitize=address,undefined" -fno-sanitize-recover=all -I"$dist")
-    "${sanitized[@]}" -o "$work/sanitized_tests" "$here/c/tests/test_promql.c" -pthread "$dist/libpromql.a" &&
-        "${sanitized[@]}" -o "$work/sanitized_memory" "$here/c/tests/test_memory.c" "$dist/libpromql.a" \
+    "${sanitized[@]}" -o "$work/sanitized_tests" "$here/c/tests/test_promql.c" -pthread "$made/libpromql.a" &&
+        "${sanitized[@]}" -o "$work/sanitized_memory" "$here/c/tests/test_memory.c" "$made/libpromql.a" \
             -Wl,--wrap=malloc,--wrap=realloc,--wrap=pthread_getattr_np &&
-        "${sanitized[@]}" -o "$work/sanitized_overrun" "$here/c/tests/test_overrun.c" "$dist/libpromql.a"
+        "${sanitized[@]}" -o "$work/sanitized_overrun" "$here/c/tests/test_overrun.c" "$made/libpromql.a"
 }
 
 overrun_is_reported() {
@@ -219,6 +228,7 @@ find_installed() {
 
 test_c() {
     has "${CC:-cc}" 'the binding for C' || return
+    test_kit
     try 'building the tests and the example for C' build_c
     [ -x "$work/example" ] || return
     add 'C, linked to libpromql.a' "$work/test_static"
@@ -240,7 +250,7 @@ test_c() {
 
 build_with_musl() {
     musl-gcc -static -std=c11 -O2 -Wall -Wextra -Wpedantic -Werror -I"$dist" -o "$work/test_musl" "$here/c/tests/test_promql.c" \
-        "$dist/libpromql.a" -Wl,-z,stack-size=2097152
+        "$made/libpromql.a" -Wl,-z,stack-size=2097152
 }
 
 # with_stack KIB COMMAND..: runs it with a first stack of that size, of which 100 KiB are the environment.
@@ -351,7 +361,7 @@ test_python() {
         try 'the tests for Python by pytest' in_python "$here/python" -m pytest -q -p no:cacheprovider "$here/python/tests"
     fi
     if has_module mypy 'the types of the package'; then
-        try 'the types of the package' in_python "$here/python" -m mypy --strict --cache-dir "$work/mypy" "$here/python/promql"
+        try 'the types of the package' in_python "$here/python" -m mypy --strict --cache-dir "$work/mypy" "$here/python/promql" "$here/python/build_backend.py"
     fi
     [ -d /etc/grafana/dashboards ] || echo 'not tried: dashboards of packages: ceph-grafana-dashboards is not installed'
     try 'the bench for Python' bench_prints in_python "$here/python" "$here/python/bench.py"
@@ -562,7 +572,7 @@ test_examples() {
 test_change_queries() {
     local program
     local -a programs=()
-    if ! nm --defined-only "$dist/libpromql.a" | grep -q ' promql_print_tree$'; then
+    if ! nm --defined-only "$made/libpromql.a" | grep -q ' promql_print_tree$'; then
         echo 'not tried: the examples that change queries: the library has no promql_print_tree'
         return
     fi
@@ -570,7 +580,7 @@ test_change_queries() {
     chmod +x "$work/change_queries_py"
     if [ -x "$work/example" ]; then
         try 'building the example that changes queries for C' "${CC:-cc}" -std=c99 -O2 -Wall -Wextra -Wpedantic -Werror -I"$dist" \
-            -o "$work/change_queries" "$here/c/change_queries.c" "$dist/libpromql.a"
+            -o "$work/change_queries" "$here/c/change_queries.c" "$made/libpromql.a"
     fi
     for program in change_queries_py change_queries go_programs/change_queries target/release/examples/change_queries; do
         if [ -x "$work/$program" ]; then programs+=("$work/$program"); fi
@@ -683,7 +693,7 @@ test_editor() {
     fi
 }
 
-export -f shows_own_names build_c bench_prints example_prints build_sanitized overrun_is_reported build_with_musl with_stack under_valgrind build_project
+export -f build_kit_tests kit_folder shows_own_names build_c bench_prints example_prints build_sanitized overrun_is_reported build_with_musl with_stack under_valgrind build_project
 export -f find_installed in_python unit_tests print_counts print_cargo_counts sizes_have_each_crate
 export debian_crates
 export -f formatted_rust formatted_go checked_by_shellcheck in_cargo cargo_tests cargo_tests_with_serde build_rust cache_keys in_go go_tests
@@ -696,8 +706,9 @@ case "${1:-}" in
 --prometheus) parts=(prometheus) ;;
 --proxy) parts=(proxy) ;;
 --editor) parts=(editor) ;;
+--arm) parts=(arm) ;;
 *)
-    echo 'usage: bindings/test.sh [--install | --attack | --prometheus | --proxy | --editor]' >&2
+    echo 'usage: bindings/test.sh [--install | --attack | --prometheus | --proxy | --editor | --arm]' >&2
     exit 64
     ;;
 esac

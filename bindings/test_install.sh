@@ -1,7 +1,7 @@
 # shellcheck shell=bash
 # Functions of bindings/test.sh, which sources this file: the tests of `make install`, and of what pkg-config, CMake, man and the shells
 # find then.
-: "${here:?}" "${root:?}" "${dist:?}" "${work:?}"
+: "${here:?}" "${root:?}" "${dist:?}" "${made:?}" "${work:?}"
 prefix=$work/prefix
 share=$prefix/share
 both=$work/both
@@ -19,7 +19,7 @@ files_in() {
 # What is installed is the same with DESTDIR; others can read it, whatever the umask; and `make uninstall` removes it all.
 install_all() {
     (umask 077 && make_for install PREFIX="$prefix" && make_for install PREFIX='/usr a' DESTDIR="$work/image") || return
-    cmp "$dist/promql" "$prefix/bin/promql" || return
+    cmp "$made/promql" "$prefix/bin/promql" || return
     [ "$("$prefix/bin/promql" line <<<'1+2')" = '1 + 2' ] || return
     [ -z "$(find "$prefix" -type f ! -perm -444)" ] || return
     diff <(files_in "$prefix") <(files_in "$work/image/usr a") || return
@@ -174,7 +174,7 @@ runs_in() {
 make_and_pip() {
     local empty order first second by_make gone
     "$1" -m venv --system-site-packages --without-pip "$both" &&
-        "$1" -m pip wheel --quiet --no-build-isolation --no-deps --no-index --wheel-dir "$work/both_wheels" "$here/python" || return
+        "$1" -m pip wheel --quiet --no-deps --no-index --wheel-dir "$work/both_wheels" "$here/python" || return
     empty=$(files_in "$both")
     put_in make && by_make=$(comm -13 <(echo "$empty") <(files_in "$both")) && take_out make && put_in pip || return
     [ -n "$by_make" ] && [ -z "$(comm -12 <(echo "$by_make") <(files_in "$both"))" ] && take_out pip || return
@@ -194,10 +194,10 @@ test_install() {
     [ -d "$share" ] || return
     if has groff 'the manual page'; then try 'the manual page' manual_is_read; fi
     test_linking
-    if python=$(python_with_setuptools); then
+    if python=$(python_with_pip); then
         PYTHONPATH='' try "make install beside pip install, by $python" make_and_pip "$python"
     else
-        echo 'not tried: make install beside pip install: no Python here has pip, setuptools of 64 or later, and wheel'
+        echo 'not tried: make install beside pip install: no Python here has pip and venv'
     fi
     try 'completions of bash' bash_completes
     if has fish 'completions of fish'; then try 'completions of fish' fish_completes; fi

@@ -15,11 +15,11 @@ python_with_schemas() {
     return 1
 }
 
-# python_with_setuptools: prints which Python can build a wheel of the package without a network.
-python_with_setuptools() {
+# python_with_pip: prints which Python can build a wheel of the package.
+python_with_pip() {
     local python
     for python in python3 /usr/bin/python3; do
-        if "$python" -c 'import setuptools as it, pip, venv, wheel; assert int(it.__version__.split(".")[0]) >= 64' 2>/dev/null; then
+        if "$python" -c 'import pip, venv' 2>/dev/null; then
             echo "$python"
             return
         fi
@@ -27,18 +27,34 @@ python_with_setuptools() {
     return 1
 }
 
+# pythons: each Python 3 from 3.8 on that is here, those of pyenv among them, by its version.
+pythons() {
+    local python version
+    local -A seen=()
+    for python in python3 /usr/bin/python3 python3.{8..14} "${PYENV_ROOT:-$HOME/.pyenv}"/versions/3.*/bin/python3; do
+        version=$("$python" -c 'import sys, pip, venv; assert sys.version_info >= (3, 8); print(sys.version_info[1])' 2>/dev/null) || continue
+        if [ -z "${seen[$version]:-}" ]; then printf '%s %s\n' "$version" "$python"; fi
+        seen[$version]=1
+    done | sort -n
+}
+
 # ---- the extension
 
-# The extension that is built here is that of dist/, if both are made with the same tools of the same sources.
+# The extension that is built here is that of dist/, for each processor that there is a compiler for, if both are made with the same tools of
+# the same sources.
 extension_agrees() {
-    mkdir -p "$work/extension" && "$root/bin/link_extension" "$work/extension" || return
-    [ "$(extension_tools)" != "$(sed -n 2p "$dist/_native.made_from")" ] || [ -n "$(why_extension_stale)" ] ||
-        cmp "$work/extension/_native.abi3.so" "$dist/_native.abi3.so"
+    local processor
+    for processor in $(processor_names); do
+        compiler_for "$processor" >/dev/null || continue
+        mkdir -p "$work/extension" && "$root/bin/link_extension" "$processor" "$work/extension" || return
+        [ "$(extension_tools)" != "$(sed -n 2p "$dist/_native.made_from")" ] || [ -n "$(why_extension_stale "$processor")" ] ||
+            cmp "$work/extension/_native.abi3.so" "$dist/$processor/_native.abi3.so" || return
+    done
 }
 
 build_sanitized_extension() {
     mkdir -p "$work/sanitized_extension" &&
-        "$root/bin/link_extension" "$work/sanitized_extension" -g -O1 "-fsanitize=address,undefined" -fno-sanitize-recover=all
+        "$root/bin/link_extension" "$(uname -m)" "$work/sanitized_extension" -g -O1 "-fsanitize=address,undefined" -fno-sanitize-recover=all
 }
 
 # write_python FILE COMMAND..: makes the file a Python that runs under a command, its memory from malloc.
@@ -89,22 +105,32 @@ test_schema() {
 # The package as pip installs it, in a folder of its own, which another user finds, too.
 install_wheel() {
     chmod 711 "$work"
-    "$python" -m pip wheel --quiet --no-build-isolation --no-deps --no-index --wheel-dir "$work/wheels" "$here/python" &&
+    "$python" -m pip wheel --quiet --no-deps --no-index --wheel-dir "$work/wheels" "$here/python" &&
         "$python" -m pip install --quiet --no-deps --no-index --target "$work/site" "$work"/wheels/promql-*.whl
 }
 
+# A Python of this version installs the package from the checkout, without a network and without anything else, and makes its calls.
+installs() {
+    local venv=$work/venv_$1 python=$work/venv_$1/bin/python
+    "$2" -m venv "$venv" && "$python" -m pip install --quiet --no-index "$here/python" && "$python" -m pip check &&
+        (cd "$here/python/tests" && env -u PYTHONPATH "$python" -m unittest test_promql test_calls) &&
+        "$venv/bin/promql-rules" check "$here/python/tests/files/board.json" && "$python" -m pip uninstall --quiet --yes promql &&
+        ! "$python" -c 'import promql' 2>/dev/null
+}
+
 test_wheel() {
-    local python
-    if ! python=$(python_with_setuptools); then
-        echo 'not tried: the wheel: no Python here has pip, setuptools of 64 or later, and wheel'
+    local python version other
+    if ! python=$(python_with_pip); then
+        echo 'not tried: the wheel: no Python here has pip and venv'
         return
     fi
     export python
-    add "the wheel, by $python" unit_tests "$here/python" wheels.py
+    most=600 add "the wheel, by $python" unit_tests "$here/python" wheels.py
+    while read -r version other; do try "Python 3.$version, from the checkout" installs "$version" "$other"; done < <(pythons)
     try "installing the wheel, by $python" install_wheel
     if [ -d "$work/site" ]; then PROMQL_BROKEN=1000 add_unit_tests "Python, as pip installs it, by $python" "$work/site"; fi
 }
 
-export -f install_wheel extension_agrees build_sanitized_extension
+export -f install_wheel installs extension_agrees build_sanitized_extension
 # What these call of bin/lib.sh.
-export -f extension_tools python_headers why_extension_stale why_other extension_fingerprint is_listed file_sum
+export -f extension_tools python_headers why_extension_stale why_other extension_fingerprint is_listed file_sum processor_names compiler_for tools_for

@@ -9,7 +9,7 @@ PROGRAM is a formatter that reads a query from standard input and takes `--width
 as it is, and with comments between its tokens. With --made N, so many queries are made at random or taken from these, with comments, and
 formatted by the library of dist/, each with a width and a spelling by chance. Of each layout it is asked
 
-- that it is a query with the same line (`dist/promql batch` prints both), and with `--keep-spelling` the same tokens, but for commas
+- that it is a query with the same line (`promql batch` of dist/ prints both), and with `--keep-spelling` the same tokens, but for commas
   that close a list;
 - that it has the comments of the text, in order, with `--keep-spelling` each between the same tokens, but for commas, and formatted again
   is the same;
@@ -29,9 +29,9 @@ from pathlib import Path
 
 TOP = Path(__file__).resolve().parents[2]
 sys.path.insert(0, str(TOP / "bin"))
-from checks import Checks, print_counts  # noqa: E402
+from checks import Checks, print_counts, released  # noqa: E402
 
-PROMQL = TOP / "dist" / "promql"
+PROMQL = released("promql")
 PIECE = re.compile(r'\s+("(?:[^"\\]|\\.)*")(?:\s+\*(\d+))?')
 TOKEN = re.compile(
     r"""(?P<string>"(?:\\.|[^"\\])*"|'(?:\\.|[^'\\])*'|`[^`]*`)"""

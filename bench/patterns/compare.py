@@ -4,6 +4,7 @@ import argparse
 import collections
 import json
 import pathlib
+import platform
 import random
 import re
 import subprocess
@@ -95,7 +96,7 @@ def main():
     parser = argparse.ArgumentParser(description=__doc__)
     parser.add_argument("--patterns", type=int, default=100_000)
     parser.add_argument("--seed", type=int, default=1)
-    parser.add_argument("--program", default=str(TOP / "dist" / "promql"))
+    parser.add_argument("--program", default=str(TOP / "dist" / platform.machine() / "promql"))
     args = parser.parse_args()
     rng = random.Random(args.seed)
     plains = [plain(rng) for _ in range(args.patterns)]

@@ -1,5 +1,5 @@
 #!/usr/bin/env bash
-# bindings/go/file_proxy.sh FOLDER   puts the module of the commit that is checked out into a folder, with the library and its header of dist/.
+# bindings/go/file_proxy.sh FOLDER   puts the module of the commit that is checked out into a folder, with the libraries and their header of dist/.
 #                                    `go get` takes it from there, with GOPROXY=file://FOLDER; docs/guide/bindings.md shows it
 set -eu
 if [ $# != 1 ] || [ -z "$1" ]; then
@@ -15,8 +15,14 @@ versions=$1/$(sed 's/[A-Z]/!\L&/g' <<<"$module")/@v
 mkdir -p "$versions"
 versions=$(cd "$versions" && pwd)
 cd "$here/../.."
-git archive --format=zip --prefix="$module@$version/" --add-file=dist/libpromql.a --add-file=dist/promql.h --add-file=LICENSE \
-    --add-file=NOTICE --output="$versions/$version.zip" HEAD:bindings/go
+# (a file that is added has the prefix before it, and those of the commit have the last one)
+added=()
+for library in dist/*/libpromql.a; do
+    processor=$(basename "$(dirname "$library")")
+    added+=(--prefix="$module@$version/internal/$processor/" --add-file="$library")
+done
+git archive --format=zip "${added[@]}" --prefix="$module@$version/" --add-file=dist/promql.h --add-file=LICENSE --add-file=NOTICE \
+    --output="$versions/$version.zip" HEAD:bindings/go
 git show HEAD:bindings/go/go.mod >"$versions/$version.mod"
 printf '{"Version":"%s"}\n' "$version" >"$versions/$version.info"
 (cd "$versions" && for file in *.info; do echo "${file%.info}"; done) >"$versions/list"

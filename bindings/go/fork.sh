@@ -1,6 +1,6 @@
 #!/usr/bin/env bash
 # bindings/go/fork.sh MODULE   makes bindings/go a module of this path, which `go get` takes from a fork: the module and its imports get the
-#                              path, and the folder gets the library and its header of dist/. Commit what it changed and tag it
+#                              path, and the folder gets the libraries and their header of dist/. Commit what it changed and tag it
 #                              bindings/go/vVERSION; the path is that of the repository and /bindings/go, as in
 #                              github.com/YOU/promql/bindings/go
 set -eu
@@ -11,6 +11,10 @@ fi
 module=$1
 cd "$(dirname "$0")"
 old=$(sed -n 's/^module //p' go.mod)
-cp ../../dist/libpromql.a ../../dist/promql.h .
+cp ../../dist/promql.h .
+for library in ../../dist/*/libpromql.a; do
+    processor=$(basename "$(dirname "$library")")
+    cp "$library" "internal/$processor"
+done
 sed -i "s|^module .*|module $module|" go.mod
 find . -name '*.go' -exec sed -i -E "s|^(\t\|import \|import _ )\"$old(/[^\"]*)?\"\$|\1\"$module\2\"|" {} +

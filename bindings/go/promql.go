@@ -6,11 +6,11 @@
 // proved of the calls, and what is not, is in docs/guide/bindings.md of the repository.
 package promql
 
-// The library is beside this file in a module that fork.sh or file_proxy.sh made, and in dist/ in the repository.
+// The header is beside this file in a module that fork.sh or file_proxy.sh made, and in dist/ in the repository. The library of each
+// processor is in library_amd64.go and library_arm64.go.
 
 /*
 #cgo CFLAGS: -I${SRCDIR} -I${SRCDIR}/../../dist
-#cgo LDFLAGS: -L${SRCDIR} -L${SRCDIR}/../../dist -l:libpromql.a
 #include "promql.h"
 */
 import "C"

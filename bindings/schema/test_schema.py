@@ -5,7 +5,7 @@
 - a form that was changed in one place is not, but for the changes that a schema does not see (changes.py);
 - its objects, their members and their words are those of the page's tables, and its functions those of docs/reference/functions.md.
 
-usage: bindings/schema/test_schema.py   with dist/promql. The last line is 'N passed, M failed'
+usage: bindings/schema/test_schema.py   with the program of dist/. The last line is 'N passed, M failed'
 """
 
 import json
@@ -23,7 +23,7 @@ import changes
 
 ROOT = Path(__file__).resolve().parents[2]
 sys.path.insert(0, str(ROOT / "bin"))
-from checks import Checks  # noqa: E402
+from checks import Checks, released  # noqa: E402
 
 SCHEMA = json.loads(Path(__file__).with_name("promql.schema.json").read_text(encoding="utf-8"))
 # Forms of at most so many bytes are changed.
@@ -63,7 +63,7 @@ def forms_of(queries, places):
     asked = "".join(json.dumps({"query": query, "places": places}) + "\n" for query in queries)
     # (the limits of the stored run, since rows are longer than is allowed by default)
     _, _, *limits = (ROOT / "crates" / "promql" / "args").read_text(encoding="utf-8").split()
-    command = [ROOT / "dist" / "promql", "batch", "json", *limits]
+    command = [released("promql"), "batch", "json", *limits]
     ran = subprocess.run(command, input=asked.encode(), stdout=subprocess.PIPE, timeout=60)
     answers = [json.loads(line) for line in ran.stdout.splitlines()]
     check(len(answers) == len(queries), f"{len(answers)} answers to {len(queries)} queries")

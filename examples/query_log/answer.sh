@@ -6,7 +6,7 @@ set -euo pipefail
 mode=$1
 jobs=${2:-100%}
 block=${3:-4M}
-PROMQL=${PROMQL:-$(cd "$(dirname "$0")/../.." && pwd)/dist/promql}
+PROMQL=${PROMQL:-$(cd "$(dirname "$0")/../.." && pwd)/dist/$(uname -m)/promql}
 export PROMQL PARALLEL_SHELL=$BASH
 
 # (4 says that some query was rejected, which its answer says, too)

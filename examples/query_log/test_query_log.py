@@ -12,9 +12,9 @@ from pathlib import Path
 
 HERE = Path(__file__).resolve().parent
 sys.path.insert(0, str(HERE.parents[1] / "bin"))
-from checks import Checks  # noqa: E402
+from checks import Checks, released  # noqa: E402
 
-PROMQL = HERE.parents[1] / "dist" / "promql"
+PROMQL = released("promql")
 LINES = 10_000
 
 checks = Checks()

@@ -101,12 +101,21 @@ class Calls(Protocol):
 
 
 def library_path() -> str:
-    """The library of the variable PROMQL_LIBRARY, that of the package, or in a checkout that of its dist/."""
-    return os.environ.get("PROMQL_LIBRARY") or packaged("libpromql.so")
+    """The library of the variable PROMQL_LIBRARY, that of the package, or in a checkout that of its dist/.
+
+    Raises ImportError where none is for the processor of this machine."""
+    named = os.environ.get("PROMQL_LIBRARY")
+    if named:
+        return named
+    path = packaged("libpromql.so")
+    if not os.path.isfile(path):
+        raise ImportError(f"no release of promql is for the processor {os.uname().machine}: there is no {path}")
+    return path
 
 
 def packaged(name: str) -> str:
-    """A file that was built for the package: beside this one, or in a checkout in its dist/."""
+    """A file that was built for the package: beside this one, or in a checkout in its dist/ for the processor of this machine."""
     here = os.path.dirname(os.path.realpath(__file__))
     own = os.path.join(here, name)
-    return own if os.path.isfile(own) else os.path.join(os.path.dirname(os.path.dirname(os.path.dirname(here))), "dist", name)
+    top = os.path.dirname(os.path.dirname(os.path.dirname(here)))
+    return own if os.path.isfile(own) else os.path.join(top, "dist", os.uname().machine, name)

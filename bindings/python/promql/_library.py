@@ -55,7 +55,10 @@ _SIGNATURES = {
 
 
 def load() -> ctypes.CDLL:
-    library = ctypes.CDLL(library_path())
+    try:
+        library = ctypes.CDLL(library_path())
+    except OSError as error:
+        raise ImportError(f"the library of promql does not load: {error}") from None
     for name, arguments in _SIGNATURES.items():
         # (an older library has fewer)
         function = getattr(library, name, None)

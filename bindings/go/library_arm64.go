@@ -1,0 +1,8 @@
+package promql
+
+// The library is in the folder of this package in a module that fork.sh or file_proxy.sh made, and `go mod vendor` copies that, too.
+
+// #cgo LDFLAGS: -L${SRCDIR}/internal/aarch64 -L${SRCDIR}/../../dist/aarch64 -l:libpromql.a
+import "C"
+
+import _ "wellapron.example/promql/internal/aarch64"
