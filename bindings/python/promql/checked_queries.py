@@ -158,8 +158,9 @@ class QueryChecker:
 
     @staticmethod
     def error(text: str) -> Optional[ValueError]:
-        """Why the library rejects a text, or nothing."""
-        return _VERDICTS.of(text)
+        """Why the library rejects a text, or nothing. (What only the target rejects can be looked at and laid out.)"""
+        found = _VERDICTS.of(text)
+        return None if isinstance(found, promql.RefusedError) else found
 
     def faults(self, queries: Iterable[Query]) -> List[Fault]:
         """What is wrong with the queries of the file, and that some are not looked at."""
@@ -171,7 +172,7 @@ class QueryChecker:
             if not self.admits(query.text):
                 left.append(query)
                 continue
-            error = self.error(query.text)
+            error = _VERDICTS.of(query.text)
             if error:
                 found.append(self.rejected(query, error))
         return found + self.left(left)

@@ -41,7 +41,8 @@ BAD = {
     "b-long-query.yml": (RULE + f"  - record: a\n    expr: '{'+'.join(['a'] * 20_000)}'\n", (14, 1, 14)),
     "b-rejected.yml": (RULE + "  - record: a\n    expr: up ==\n", (4, 1, 4)),
     "b-stairs.yml": (RULE + f"  - record: a\n    expr: {STAIRS}\n", (0, 0, 0)),
-    "b-wide-number.yml": (RULE + "  - record: a\n    expr: up offset 1000000000y\n", (0, 2, 0)),
+    # (a target rejects it as well)
+    "b-wide-number.yml": (RULE + "  - record: a\n    expr: up offset 1000000000y\n", (24, 2, 0)),
     "x" * 251 + ".yml": (RULE + "  - record: a\n    expr: up\n", (0, 0, 0)),
 }
 

@@ -113,7 +113,7 @@ def _renamed(query: PlacedQuery, name: str, new: str) -> str:
 
 def _look_at_query(query: PlacedQuery, name: str, new: str) -> None:
     try:
-        promql.check(query.text)
+        promql.canonical(query.text)
     except ValueError:
         # (a query that is rejected has nothing to lose but its places)
         return
