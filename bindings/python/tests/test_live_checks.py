@@ -91,11 +91,13 @@ class Live(Asked):
             ("increase(batch_runs_total[1d])", []),
             ("max_over_time(increase(batch_runs_total[12h])[12h:])", []),
             ("increase(batch_runs_total[1h])", ["warning P801: there are no series of `batch_runs_total`"]),
-            ('{a="b" or c="d"}', []),
         ):
             with self.subTest(query):
                 self.assertEqual(self.said(query), wanted)
         self.assertEqual(self.check(rules("nope", "up")).status, 0)
+        # (a Prometheus does not take it)
+        groups = self.check(rules('{a="b" or c="d"}'), "--target", "rules")
+        self.assertEqual((groups.status, groups.err), (0, ""))
         ran = self.check(rules("nope", "up"), "--fail-on", "warning")
         self.assertEqual((ran.status, ran.err), (1, "DIR/a.yml:5:12: warning P801: there are no series of `nope`\n"))
         self.assertEqual(ran.out, "DIR/a.yml: 2 rules, no errors\nURL: 2 queries, 1 message\n")

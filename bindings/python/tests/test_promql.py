@@ -513,7 +513,11 @@ class Errors(unittest.TestCase):
             self.assertEqual((again.expected, again.found), (error.expected, "end of query"))
 
     def test_accepted(self):
-        self.assertIsNone(promql.check("a[18446744073709551616ms]"))
+        promql.set_target("rules")
+        try:
+            self.assertIsNone(promql.check("a[18446744073709551616ms]"))
+        finally:
+            promql.set_target("prometheus-3")
 
     def test_surrogates(self):
         with self.assertRaises(UnicodeEncodeError):
