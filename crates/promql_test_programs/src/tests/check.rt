@@ -86,17 +86,17 @@ const REFUSED: [Row; 6] = [
     ),
     (
         &["", "check", "--target", "prometheus-2.42"],
-        b"a[300] + -0",
+        b"rate(a[300]) + -0",
         23,
         "",
-        "1:10: Prometheus reads this otherwise: the number is negative zero there, and zero here\na[300] + -0\n         ^\n",
+        "1:16: Prometheus reads this otherwise: the number is negative zero there, and zero here\nrate(a[300]) + -0\n               ^\n",
     ),
     (
         &["", "check", "--target", "prometheus-2.42"],
         b"a[300] + (",
         4,
         "",
-        "1:10: unclosed left parenthesis\na[300] + (\n         ^\n",
+        "1:11: unclosed left parenthesis\na[300] + (\n          ^\n",
     ),
 ];
 
