@@ -206,7 +206,9 @@ static void test_errors(void)
     const char *wide = "a[18446744073709551616ms]";
     CHECK(gives(in_mode(PROMQL_JSON, 0, 0, wide), PROMQL_NUMBER_TOO_WIDE, "number too wide for JSON"));
     CHECK(gives(in_mode(PROMQL_PLACED_JSON, 0, 0, wide), PROMQL_NUMBER_TOO_WIDE, "number too wide for JSON"));
+    CHECK(promql_set_target(PROMQL_RULES) == PROMQL_OK);
     CHECK(gives(of_query(CALL_CHECK, wide), PROMQL_OK, ""));
+    CHECK(promql_set_target(PROMQL_PROMETHEUS_3) == PROMQL_OK);
     CHECK(gives(in_mode(4, 0, 0, "1"), PROMQL_UNKNOWN_MODE, "unknown mode"));
     CHECK(gives(in_mode(UINT32_MAX, 0, 0, "\xff"), PROMQL_UNKNOWN_MODE, "unknown mode"));
     CHECK(gives(in_mode(PROMQL_PRETTY, 513, 0, "1"), PROMQL_UNKNOWN_MODE, "unknown mode"));
@@ -366,7 +368,7 @@ static void test_refusals(void)
     CHECK(promql_set_target(PROMQL_PROMETHEUS_2) == PROMQL_OK);
     CHECK(gives(of_query(CALL_CHECK, "a[300]"), PROMQL_REFUSED, later));
     CHECK(gives(of_query(CALL_CANONICAL, "a[300]"), PROMQL_OK, "a[5m]"));
-    CHECK(gives(enforcing("a[300]b='1'", 6), PROMQL_OK, "a{b=\"1\"}[5m]"));
+    CHECK(gives(enforcing("a[300]b='1'", 5), PROMQL_OK, "a{b=\"1\"}[5m]"));
     CHECK(lays_out("a[300]", 80, 2, PROMQL_OK, "a[5m]"));
     CHECK(promql_set_target(PROMQL_RULES) == PROMQL_OK);
     CHECK(gives(of_query(CALL_CHECK, groups), PROMQL_OK, ""));
