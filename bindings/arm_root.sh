@@ -2,7 +2,8 @@
 # bindings/arm_root.sh make FOLDER             puts Debian for ARM into a folder, by debootstrap, with what README.md needs: 400 MB from
 #                                              Debian's server
 # bindings/arm_root.sh run FOLDER COMMAND..    runs a command there by qemu-aarch64-static, in namespaces of its own, so that nothing else
-#                                              of the machine knows programs for ARM. It needs Linux 6.7 or later
+#                                              of the machine knows programs for ARM; in / it is a command of this machine, or a program for
+#                                              ARM, and may start both. It needs Linux 6.7 or later
 set -eu
 packages=python3,python3-pip,python3-venv,python3-ruamel.yaml,python3-yaml,make,git
 
@@ -26,6 +27,7 @@ run_in() {
     shift
     mount -t binfmt_misc none /proc/sys/fs/binfmt_misc
     printf '%s' ":qemu-aarch64:M::$magic:$mask:$(command -v qemu-aarch64-static):F" >/proc/sys/fs/binfmt_misc/register
+    if [ "$folder" = / ]; then exec "$@"; fi
     mount --rbind /dev "$folder/dev"
     mount -t proc proc "$folder/proc"
     exec chroot "$folder" "$@"
@@ -36,7 +38,7 @@ make) make_root "${2:?a folder}" ;;
 run) exec unshare --user --map-root-user --mount --pid --fork --kill-child "$0" within "${2:?a folder}" "${@:3}" ;;
 within) run_in "${@:2}" ;;
 *)
-    sed -n '2,5s/^# //p' "$0" >&2
+    sed -n '2,6s/^# //p' "$0" >&2
     exit 64
     ;;
 esac

@@ -13,6 +13,7 @@
 #include <stdio.h>
 #include <stdlib.h>
 #include <string.h>
+#include <unistd.h>
 
 static long passed, failed;
 
@@ -695,14 +696,17 @@ static void test_small_stacks(void)
     /* (1,300 KiB are hardly more than a call asks for) */
     static const size_t sizes[] = {64, 128, 256, 512, 1024, 1300, 1536, 2048};
     char *query = allocate(4096);
+    /* (a thread has 16 KiB at least, or 128 on ARM) */
+    const size_t least = (size_t)sysconf(_SC_THREAD_STACK_MIN);
     for (size_t i = 0; i < sizeof sizes / sizeof *sizes; i++) {
         pthread_attr_t attributes;
-        if (pthread_attr_init(&attributes) != 0 || pthread_attr_setstacksize(&attributes, sizes[i] * 1024) != 0)
+        const size_t size = sizes[i] * 1024 < least ? least : sizes[i] * 1024;
+        if (pthread_attr_init(&attributes) != 0 || pthread_attr_setstacksize(&attributes, size) != 0)
             abort();
         for (size_t number = 0; number < DEEP_QUERIES; number++) {
             pthread_t thread;
             put_deep(number, query);
-            struct small_stack stack = {query, sizes[i] * 1024 > PROMQL_STACK, 0};
+            struct small_stack stack = {query, size > PROMQL_STACK, 0};
             if (pthread_create(&thread, &attributes, call_on_small_stack, &stack) != 0)
                 abort();
             pthread_join(thread, NULL);
