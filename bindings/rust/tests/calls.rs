@@ -48,7 +48,7 @@ fn targets_read_otherwise_and_reject() {
     assert_eq!(canonical(query).as_deref(), Ok(line));
     set_target(Target::Rules);
     let found = (check(query), enforce(query, "c='1'"), rename_metric(query, "a", "a"));
-    let all = check(r#"a{b="c" or d="e"} + b[300]"#);
+    let all = check(r#"a{b="c" or d="e"} + rate(b[300])"#);
     set_target(Target::Prometheus2);
     let later = check("b[300]");
     set_target(Target::Prometheus3);
