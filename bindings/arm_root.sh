@@ -9,11 +9,15 @@ packages=python3,python3-pip,python3-venv,python3-ruamel.yaml,python3-yaml,make,
 
 # What debootstrap leaves for programs of the folder to do is not needed: each package is unpacked, and no more.
 make_root() {
-    local package
+    local package place
     debootstrap --foreign --arch=arm64 --variant=minbase --include="$packages" bookworm "$1" http://deb.debian.org/debian
     for package in "$1"/var/cache/apt/archives/*.deb; do
         dpkg-deb --fsys-tarfile "$package" | tar -C "$1" --keep-directory-symlink -xf -
         rm "$package"
+    done
+    # (it leaves links to folders of this machine where it may mount none)
+    for place in proc dev; do
+        if [ -L "$1/$place" ]; then rm "$1/$place" && mkdir "$1/$place"; fi
     done
 }
 
