@@ -82,7 +82,7 @@ test_c_for_arm() {
     add 'failing allocations in C for ARM' "$work/run_memory"
     try 'the example for C for ARM' prints_for_arm "$work/run_example" '1 + 2' '1+2'
     has python3 'rows and broken texts for C for ARM' || return
-    most=1800 add 'rows for C for ARM, and again in four threads' python3 "$here/rows.py" c "$work/run_static" 4
+    most=1800 add 'rows for C for ARM, and again in two threads' python3 "$here/rows.py" c "$work/run_static" 2
     try 'the calls of the rows' python3 "$here/rows.py" write "$work/calls"
     add 'broken texts for C for ARM' "$work/run_static" random "$work/calls" 2000 5
 }
