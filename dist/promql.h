@@ -53,14 +53,15 @@ enum promql_named {
 /* What reads a query that is sent on (docs/reference/programs.md, "Targets"). */
 enum promql_target {
     PROMQL_PROMETHEUS_3 = 0, /* Prometheus, which reads some parts of queries otherwise, as -0 and "\xc3" */
-    PROMQL_RULES = 1         /* the rules of this library */
+    PROMQL_RULES = 1,        /* the rules of this library */
+    PROMQL_PROMETHEUS_2 = 2  /* Prometheus 2.42, which also rejects what came later */
 };
 
 /* The bytes of stack that a call about a query asks for: more than any query is known to need (docs/PERFORMANCE.md, "The program").
  * A thread needs more than these, for what it does itself. */
 #define PROMQL_STACK 1310720
 
-/* 0, or why the buffer does not have what was asked for. With 1 to 6, 9, 11 to 14, 16 to 18, 20 to 23 the text is the message of
+/* 0, or why the buffer does not have what was asked for. With 1 to 6, 9, 11 to 14, 16 to 18, 20 to 24 the text is the message of
  * the error. */
 enum promql_status {
     PROMQL_OK = 0,
@@ -85,15 +86,16 @@ enum promql_status {
     PROMQL_NOT_A_NAME = 20,      /* the new name is no name of a metric */
     PROMQL_METRIC_LABEL = 21,    /* the old name or the new one is __name__, which names no label but the metric */
     PROMQL_CLASH = 22,           /* both labels are in one list, and would become one */
-    PROMQL_READ_OTHERWISE = 23   /* the target reads the query otherwise, and the result has the place, or the matcher */
+    PROMQL_READ_OTHERWISE = 23,  /* the target reads the query otherwise, and the result has the place, or the matcher */
+    PROMQL_REFUSED = 24          /* promql_check: the target rejects the query, and the result has the place */
 };
 
 struct promql_result {
     uint32_t status;
     size_t length; /* bytes of the text */
-    /* With PROMQL_REJECTED, PROMQL_TOO_LARGE and PROMQL_READ_OTHERWISE, else 0: the part that the error is about, in bytes from 0, and
-     * empty at the query's end; and the line and the column where it begins, from 1, the column in characters. All are 0 where the error
-     * is about a matcher or a tree. */
+    /* With PROMQL_REJECTED, PROMQL_TOO_LARGE, PROMQL_READ_OTHERWISE and PROMQL_REFUSED, else 0: the part that the error is about, in
+     * bytes from 0, and empty at the query's end; and the line and the column where it begins, from 1, the column in characters. All are 0
+     * where the error is about a matcher or a tree. */
     size_t start;
     size_t end;
     size_t line;
@@ -146,7 +148,7 @@ uint32_t promql_parts(const char *query, size_t query_length, char *buffer, size
 uint32_t promql_tokens(const char *text, size_t text_length, char *buffer, size_t buffer_size,
                        struct promql_result *result);
 
-/* Checks a query, also whether the target reads it otherwise (promql_set_target). The text is empty where it is accepted. */
+/* Checks a query, also whether the target reads it otherwise or rejects it (promql_set_target). The text is empty where it is accepted. */
 uint32_t promql_check(const char *query, size_t query_length, char *buffer, size_t buffer_size,
                       struct promql_result *result);
 
