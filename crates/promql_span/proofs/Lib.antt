@@ -1,5 +1,6 @@
 pub mod EscapeSteps
 pub mod DifferenceRows
+pub mod FoundKinds
 pub mod Covered
 pub mod LineParts
 pub mod Naming

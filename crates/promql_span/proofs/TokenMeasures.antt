@@ -41,3 +41,9 @@ passing_at s most before after n place all fit passes is =
     let through : take (length before + 1) (token_measures s) ≡ before ++ n ∷ [] = ap (take (length before + 1)) all ∙ take-append-add before (n ∷ after) 1 in
     let more : sum (before ++ n ∷ []) ≡ sum before + n = sum_by_push (λ k. k) before n in
     (length before, omega (arith, ap sum front, fit), omega (arith, ap sum through, more, passes), is)
+
+-- the tokens before the end are no more than the bytes
+pub tokens_are_few : (s : Text) → length (tokens_up_to_fault s) ≤ length s
+tokens_are_few s =
+    let same : length (tokens_up_to_fault s) ≡ length (placed_tokens s) = ap length (pieces_placed s) ∙ length-map (placed_tokens s) (λ x. (x.id, text_at s x)) in
+    omega (arith, same, tokens_fit s)

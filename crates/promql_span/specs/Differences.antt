@@ -1,7 +1,6 @@
 -- What Prometheus reads otherwise (docs/reference/programs.md, "Targets").
-use Rattle.std.specs.Prelude.{ℕ, ◌+◌, ◌-◌, Bool, true, false, ◌&&◌, ◌||◌, ◌==◌, not, nat_lt, if◌then◌else◌, List, [], ◌∷◌, codes, drop, length, Option, Some, None, option_and_then, option_map, is_some, Result, Ok, Err, slice_index, take, take_while}
-use Rattle.std.specs.List.{list_any}
-use Rattle.std.specs.Option.{option_or}
+use Rattle.std.specs.Prelude.{ℕ, ◌+◌, ◌-◌, Bool, true, false, ◌&&◌, ◌||◌, ◌==◌, not, nat_lt, if◌then◌else◌, List, [], ◌∷◌, ◌++◌, codes, drop, length, Option, Some, None, option_and_then, option_map, option_to_list, is_some, Result, Ok, Err, slice_get, slice_index, take, take_while}
+use Rattle.std.specs.List.{filter_map, list_any}
 use Rattle.std.specs.Str.{bytes_eq, str_eq_ignore_ascii_case}
 use Rattle.promql_text.specs.NumberText.{read_number}
 use Rattle.promql_text.specs.Texts.{Text, code}
@@ -9,16 +8,19 @@ use Rattle.promql_text.specs.Values.{is_zero}
 use Rattle.promql_text.specs.declared.number.Number.{Number}
 use Rattle.promql_text.specs.declared.number.NumberFault.{NumberFault}
 use Rattle.promql_token.specs.Cursor.{tokens_up_to_fault}
-use Rattle.promql_token.specs.declared.ids.TheConstants.{T_ADD, T_AT, T_BOOL, T_COMMA, T_EQL, T_EQL_REGEX, T_IDENTIFIER, T_LEFT_BRACE, T_LEFT_PAREN, T_NEQ, T_NEQ_REGEX, T_NUMBER, T_OPERATORS_END, T_OPERATORS_START, T_POW, T_RIGHT_BRACE, T_STRING, T_SUB}
+use Rattle.promql_token.specs.declared.ids.TheConstants.{T_ADD, T_AT, T_BOOL, T_COMMA, T_EQL, T_EQL_REGEX, T_ATAN2, T_IDENTIFIER, T_LAND, T_LEFT_BRACE, T_LEFT_PAREN, T_LOR, T_LUNLESS, T_NEQ, T_NEQ_REGEX, T_NUMBER, T_OPERATORS_END, T_OPERATORS_START, T_POW, T_RIGHT_BRACE, T_STRING, T_SUB}
 use Rattle.promql_grammar.specs.Symbols.{is_plus_or_minus}
-use Rattle.promql_span.specs.ByteEscapes.{byte_escape, first_escape}
+use Rattle.promql_span.specs.ByteEscapes.{escape_in, first_escape}
 use Rattle.promql_span.specs.PlacedTokens.{first_span, placed_tokens}
 use Rattle.promql_span.specs.declared.differences.Difference.{Difference}
 use Rattle.promql_span.specs.declared.differences.DifferenceKind.{DifferenceKind}
 use Rattle.promql_span.specs.declared.differences.DifferenceKind.TheVariants as kind
 use Rattle.promql_span.specs.declared.differences.Printed.{Printed}
 use Rattle.promql_span.specs.declared.differences.Printed.TheVariants.{Layout, Nothing, SortedLayout, Tree}
+use Rattle.promql_span.specs.declared.limits.Limits.{Limits}
 use Rattle.promql_span.specs.declared.span.Span.{Span}
+use Rattle.promql_span.specs.declared.target.Target.{Target}
+use Rattle.promql_span.specs.declared.target.Target.TheVariants.{Rules}
 
 -- tokens, each its id and its text
 abbrev pub Tokens : Type 0
@@ -45,10 +47,15 @@ abbrev pub begins_with_zero : Tokens → Bool
 begins_with_zero [] = false
 begins_with_zero (t ∷ ts) = t.0 == T_NUMBER && (reads_zero (read_number t.1) && not (comes_first T_POW ts))
 
--- whether a minus after this token has one operand; an expression begins as after a parenthesis
+-- whether a minus after this token has one operand
 abbrev pub is_before_operand : ℕ → Bool
 is_before_operand id =
     list_any (λ k. id == k) (T_LEFT_PAREN ∷ T_COMMA ∷ T_BOOL ∷ []) || (nat_lt T_OPERATORS_START id && (nat_lt id T_OPERATORS_END && not (id == T_AT)))
+
+-- what stands for a token after this one: a name for a word that is an operator elsewhere
+abbrev pub stands_for : ℕ → ℕ → ℕ
+stands_for before id =
+    if is_before_operand before && list_any (λ k. id == k) (T_LAND ∷ T_LOR ∷ T_LUNLESS ∷ T_ATAN2 ∷ []) then T_IDENTIFIER else id
 
 abbrev pub is_negative_zero : ℕ → ℕ × Text → Tokens → Bool
 is_negative_zero before t ts = t.0 == T_SUB && (is_before_operand before && begins_with_zero (after_signs ts))
@@ -151,30 +158,43 @@ is_of_layout kind.PartOfMillisecond = false
 is_of_layout kind.Plus = false
 is_of_layout k = true
 
-abbrev pub is_of : Printed → DifferenceKind → Bool
-is_of Tree k = true
-is_of Layout kind.RepeatedLabel = false
-is_of Layout k = is_of_layout k
-is_of SortedLayout k = is_of_layout k
-is_of Nothing k = true
+abbrev pub is_of_print : Printed → DifferenceKind → Bool
+is_of_print Tree k = true
+is_of_print Layout kind.RepeatedLabel = false
+is_of_print Layout k = is_of_layout k
+is_of_print SortedLayout k = is_of_layout k
+is_of_print Nothing k = true
 
-abbrev pub counted : Printed → Option DifferenceKind → Option DifferenceKind
-counted printed None = None
-counted printed (Some kind) = if is_of printed kind then Some kind else None
+-- these rules read nothing otherwise
+abbrev pub is_of : Target → Printed → DifferenceKind → Bool
+is_of Rules printed k = false
+is_of target printed k = is_of_print printed k
 
--- with the number of that token; `n` is that of the first
-abbrev pub first_kind : Printed → ℕ → ℕ → Tokens → Option (ℕ × DifferenceKind)
-first_kind printed n before [] = None
-first_kind printed n before (t ∷ ts) =
-    option_or (option_map (λ kind. (n, kind)) (counted printed (kind_at before t ts))) (first_kind printed (n + 1) t.0 ts)
+abbrev pub counted : Limits → Option DifferenceKind → Option DifferenceKind
+counted limits None = None
+counted limits (Some kind) = if is_of limits.target limits.printed kind then Some kind else None
 
--- where it is: a byte escape, or the token
+-- all of them, each with the number of its token; `n` is that of the first
+abbrev pub kinds : Limits → ℕ → ℕ → Tokens → List (ℕ × DifferenceKind)
+kinds limits n before [] = []
+kinds limits n before (t ∷ ts) =
+    option_to_list (option_map (λ kind. (n, kind)) (counted limits (kind_at before t ts))) ++ kinds limits (n + 1) (stands_for before t.0) ts
+
+-- an expression begins as after a parenthesis
+abbrev pub kinds_of : Limits → Text → List (ℕ × DifferenceKind)
+kinds_of limits s = kinds limits 0 T_LEFT_PAREN (tokens_up_to_fault s)
+
+-- where it is: the first byte escape of the string, or the token
 abbrev pub place_of : Text → ℕ → DifferenceKind → Option Span
-place_of s n kind.ByteEscape = byte_escape s
+place_of s n kind.ByteEscape = option_and_then (escape_in s) (slice_get (placed_tokens s) n)
 place_of s n k = Some (first_span s (drop n (placed_tokens s)))
 
 abbrev pub difference_at : Text → ℕ × DifferenceKind → Option Difference
 difference_at s (n, kind) = option_map (λ span. record { kind = kind; span = span }) (place_of s n kind)
 
-abbrev pub first_difference : Printed → Text → Option Difference
-first_difference printed s = option_and_then (difference_at s) (first_kind printed 0 T_LEFT_PAREN (tokens_up_to_fault s))
+-- the parts of a query that the target reads otherwise than what is printed
+abbrev pub differences : Limits → Text → List Difference
+differences limits s = filter_map (difference_at s) (kinds_of limits s)
+
+abbrev pub difference : Limits → Text → Option Difference
+difference limits s = option_and_then (difference_at s) (slice_get (kinds_of limits s) 0)

@@ -16,6 +16,7 @@ pub mod KindNames
 pub mod Unexpected
 pub mod Findings
 pub mod Locations
+pub mod Inspections
 pub mod MeasuredTokens
 pub mod QueryLimits
 pub mod Visible

@@ -3,8 +3,6 @@ use Rattle.std.specs.Prelude.{ℕ, ◌==◌, Bool, if◌then◌else◌, bytes_eq
 use Rattle.std.specs.Map.{lookup}
 use Rattle.promql_text.specs.Texts.{Text}
 use Rattle.promql_span.specs.ByteEscapes.{byte_escape}
-use Rattle.promql_span.specs.Differences.{first_difference}
-use Rattle.promql_span.specs.declared.differences.Difference.{Difference}
 use Rattle.promql_span.specs.declared.differences.Printed.{Printed}
 use Rattle.promql_span.specs.declared.differences.Printed.TheVariants.{Layout, Nothing, SortedLayout}
 use Rattle.promql_span.specs.declared.limits.Limits.{Limits}
@@ -17,14 +15,6 @@ target_named name = lookup (bytes_eq name) ((codes "prometheus-2.42", Prometheus
 
 abbrev pub target_numbered : ℕ → Option Target
 target_numbered n = lookup (λ m. n == m) ((0, Prometheus3) ∷ (1, Rules) ∷ (2, Prometheus2) ∷ [])
-
--- the first part of a query that the target reads otherwise than what is printed
-abbrev pub target_difference : Target → Printed → Text → Option Difference
-target_difference Rules printed query = None
-target_difference target printed query = first_difference printed query
-
-abbrev pub difference : Limits → Text → Option Difference
-difference limits query = target_difference limits.target limits.printed query
 
 -- of a matcher it reads nothing otherwise but byte escapes
 abbrev pub matcher_difference : Target → Text → Option Span

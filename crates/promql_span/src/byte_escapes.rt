@@ -27,7 +27,7 @@ pub fn byte_escape(text: &str) -> Option<Span>
 }
 
 /// The first one of a token, if that is a string.
-fn escape_in(text: &str, token: Lexeme) -> Option<Span>
+pub(crate) fn escape_in(text: &str, token: Lexeme) -> Option<Span>
     requires { token.start + token.len ≤ length text.now }
     ensures { result ≡ spec.escape_in text.now token }
 {

@@ -1,24 +1,29 @@
 //! What Prometheus reads otherwise: docs/reference/programs.md, "Targets".
 
-ghost use Rattle.std.specs.Prelude.{◌≡◌, ◌==◌, [], IfOk, MatchOption, length, map, take, true, ℕ};
-ghost use Rattle.std.specs.List.{list_any};
-ghost use Rattle.std.specs.Str.{str_eq_ignore_ascii_case};
+ghost use Rattle.std.specs.Prelude.{◌≡◌, ◌≤◌, ◌+◌, ◌==◌, [], ◌∷◌, IfOk, IfSome, MatchOption, codes, length, map, option_map, option_to_list, slice_get, take, true, ℕ, ◌++◌, OnOk};
+ghost use Rattle.std.specs.List.{filter_map, list_any};
+ghost use Rattle.std.specs.Str.{bytes_eq, str_eq_ignore_ascii_case};
 ghost use Rattle.promql_text.specs.NumberText.{read_number};
 ghost use Rattle.promql_token.specs.Cursor.{tokens_left};
 ghost use Rattle.promql_span.specs.DifferenceSteps.{matched};
 ghost use Rattle.promql_span.specs.Differences as spec;
+ghost use Rattle.promql_span.specs.PlacedTokens.{placed_tokens};
 
-use crate::byte_escapes::{byte_escape, first_escape};
-use crate::limits::token_numbered;
-use crate::lookahead::{after_signs, comes_first, is_before_operand};
+use crate::byte_escapes::{escape_in, first_escape};
+use crate::inspection::inspect_tokens;
+use crate::limits::Limits;
+use crate::lookahead::{after_signs, comes_first, is_before_operand, stands_for};
+use crate::placed::PlacedTokens;
+use crate::places::next_span;
 use crate::span::Span;
+use crate::target::Target;
 use promql_text::parse_str_radix;
-use promql_token::TokenId;
 use promql_token::cursor::Cursor;
 use promql_token::ids::{
     T_ADD, T_AT, T_EQL, T_EQL_REGEX, T_IDENTIFIER, T_LEFT_BRACE, T_LEFT_PAREN, T_NEQ, T_NEQ_REGEX,
     T_NUMBER, T_POW, T_RIGHT_BRACE, T_STRING, T_SUB,
 };
+use promql_token::{Lexeme, TokenId};
 use std::alloc::{AllocError, Global};
 use thiserror::Error;
 
@@ -68,14 +73,25 @@ pub enum Printed {
 }
 
 impl DifferenceKind {
+    /// Whether it is a difference for the target, as the query is printed.
+    fn is_of(self, limits: &Limits) -> bool
+        ensures { result ≡ spec.is_of limits.now.target limits.now.printed self }
+    {
+        match limits.target {
+            Target::Prometheus2 | Target::Prometheus3 => self.is_of_print(limits.printed),
+            Target::Rules => false,
+        }
+    }
+
     /// Whether it is a difference of what is printed so.
-    fn is_of(self, printed: Printed) -> bool
-        ensures { result ≡ spec.is_of printed self }
+    fn is_of_print(self, printed: Printed) -> bool
+        ensures { result ≡ spec.is_of_print printed self }
     {
         match printed {
             Printed::Tree | Printed::Nothing => true,
-            Printed::Layout => self.is_of_layout()
-                && !matches!(self, DifferenceKind::RepeatedLabel),
+            Printed::Layout => {
+                self.is_of_layout() && !matches!(self, DifferenceKind::RepeatedLabel)
+            }
             Printed::SortedLayout => self.is_of_layout(),
         }
     }
@@ -95,51 +111,99 @@ impl DifferenceKind {
     }
 }
 
-/// The first part of a query that Prometheus reads otherwise than what is printed of it. It looks at the tokens up to a lexical fault, once.
-///
-/// # Errors
-///
-/// `AllocError` where an allocation failed.
-pub fn first_difference(
-    alloc: Global,
-    printed: Printed,
-    text: &str,
-) -> Result<Option<Difference>, AllocError>
-    ensures { IfOk result (λ d. d ≡ spec.first_difference printed text.now) }
-{
-    let mut tokens = Cursor::new(text);
-    let mut before = T_LEFT_PAREN;
-    let mut index: usize = 0;
-    while let Some((id, token)) = tokens.next() {
-        if let Some(kind) = kind_at(alloc, before, id, token, tokens)?
-            && kind.is_of(printed)
-        {
-            return Ok(difference_at(text, index, kind));
-        }
-        before = id;
-        index += 1;
+impl Limits {
+    /// The first part of a query that its target reads otherwise than what is printed of it. It looks at the tokens up to a lexical
+    /// fault, once.
+    ///
+    /// # Errors
+    ///
+    /// `AllocError` where an allocation failed.
+    pub fn difference(&self, alloc: Global, query: &str) -> Result<Option<Difference>, AllocError>
+        ensures { IfOk result (λ d. d ≡ spec.difference self.now query.now) }
+    {
+        Ok(inspect_tokens(alloc, self, query)?.difference(query))
     }
-    Ok(None)
+
+    /// All such parts, in the order of the text. It takes the time to read the query.
+    ///
+    /// # Errors
+    ///
+    /// `AllocError` where an allocation failed.
+    pub fn differences(&self, alloc: Global, query: &str) -> Result<Vec<Difference>, AllocError>
+        ensures { IfOk result (λ ds. ds.items ≡ spec.differences self.now query.now) }
+    {
+        let mut found = Vec::new(alloc);
+        let mut tokens = Cursor::new(query);
+        let mut places = PlacedTokens::new(query);
+        let mut before = T_LEFT_PAREN;
+        while let Some(token) = tokens.next() {
+            let place = places.next();
+            let kind = self.difference_kind(alloc, before, token, tokens)?;
+            push_difference(&mut found, query, place, kind)?;
+            before = stands_for(before, token.0);
+        }
+        Ok(found)
+    }
+
+    /// What the target reads otherwise at a token, which has one of the id `before` before it and `rest` after it.
+    #[tactic(auto, using(crate::proofs::FoundKinds::none_for_rules))]
+    pub(crate) fn difference_kind(
+        &self,
+        alloc: Global,
+        before: TokenId,
+        token: (TokenId, &str),
+        rest: Cursor<'_>,
+    ) -> Result<Option<DifferenceKind>, AllocError>
+        ensures { IfOk result (λ kind. kind ≡ spec.counted self.now (spec.kind_at before (token.entry.0, token.entry.1.now) (tokens_left rest.entry))) }
+    {
+        match self.target {
+            Target::Rules => Ok(None),
+            Target::Prometheus2 | Target::Prometheus3 => {
+                match kind_at(alloc, before, token.0, token.1, rest)? {
+                    Some(kind) if kind.is_of(self) => Ok(Some(kind)),
+                    _ => Ok(None),
+                }
+            }
+        }
+    }
 }
 
-/// The difference at the token of this index.
-fn difference_at(text: &str, index: usize, kind: DifferenceKind) -> Option<Difference>
+/// Adds the difference of this kind at a token, if there is one.
+fn push_difference(
+    found: &mut Vec<Difference>,
+    query: &str,
+    token: Option<Lexeme>,
+    kind: Option<DifferenceKind>,
+) -> Result<(), AllocError>
+    requires { IfSome token (λ x. x.start + x.len ≤ length query.now) }
+    ensures { (n : ℕ) → token ≡ slice_get (placed_tokens query.now) n → OnOk result (found.new.items
+        ≡ found.old.items ++ filter_map (spec.difference_at query.now) (option_to_list (option_map (λ k. (n, k)) kind))) }
+{
+    if let Some(kind) = kind
+        && let Some(difference) = difference_of(query, token, kind)
+    {
+        found.push(difference)?;
+    }
+    Ok(())
+}
+
+/// The difference of this kind at the token of this index.
+pub(crate) fn difference_at(text: &str, index: usize, kind: DifferenceKind) -> Option<Difference>
     ensures { result ≡ spec.difference_at text.now (index, kind) }
 {
-    match place_of(text, index, kind) {
-        Some(span) => Some(Difference { kind, span }),
-        None => None,
-    }
+    difference_of(text, PlacedTokens::new(text).nth(index), kind)
 }
 
-/// Where it is: a byte escape, or the token.
-fn place_of(text: &str, index: usize, kind: DifferenceKind) -> Option<Span>
-    ensures { result ≡ spec.place_of text.now index kind }
+/// The difference of this kind at a token, or at the end of the text.
+fn difference_of(text: &str, token: Option<Lexeme>, kind: DifferenceKind) -> Option<Difference>
+    requires { IfSome token (λ x. x.start + x.len ≤ length text.now) }
+    ensures { (n : ℕ) → token ≡ slice_get (placed_tokens text.now) n → result ≡ spec.difference_at text.now (n, kind) }
 {
-    match kind {
-        DifferenceKind::ByteEscape => byte_escape(text),
-        _ => Some(token_numbered(text, index)),
-    }
+    let span = match kind {
+        DifferenceKind::ByteEscape => escape_in(text, token?)?,
+        _ => next_span(text, token),
+    };
+    Some(Difference { kind, span })
 }
 
 /// What is read otherwise at a token, which has one of the id `before` before it and `rest` after it.
@@ -160,9 +224,18 @@ fn kind_at(
         T_AT if begins_with_fine(after_signs(rest)) => {
             Ok(Some(DifferenceKind::PartOfMillisecond))
         }
-        T_IDENTIFIER if comes_first(T_LEFT_PAREN, rest) => call_difference(alloc, token, rest),
+        T_IDENTIFIER if may_look(token) && comes_first(T_LEFT_PAREN, rest) => {
+            call_difference(alloc, token, rest)
+        }
         _ => Ok(None),
     }
+}
+
+/// Whether the function of this name looks at how its argument is written.
+fn may_look(name: &str) -> bool
+    ensures { result ≡ list_any (bytes_eq name.now) (codes "timestamp" ∷ codes "absent" ∷ codes "absent_over_time" ∷ []) }
+{
+    matches!(name, "timestamp" | "absent" | "absent_over_time")
 }
 
 /// What is read otherwise of a call, whose name has `rest` after it.

@@ -6,9 +6,11 @@ ghost use Rattle.std.specs.Prelude.{◌<◌, ◌≤◌};
 ghost use Rattle.promql_span.specs.MeasuredTokens.{AreMeasured};
 ghost use Rattle.promql_span.specs.PlacedTokens.{first_span, placed_tokens};
 ghost use Rattle.promql_span.specs.QueryLimits as spec;
+ghost use Rattle.promql_span.specs.declared.limits.Limits as bounds;
 ghost use Rattle.promql_span.specs.Targets.{for_check, for_layout, for_rules};
 
 use crate::differences::Printed;
+use crate::inspection::inspect_tokens;
 use crate::placed::PlacedTokens;
 use crate::places::{end_of_text, span_of};
 use crate::span::Span;
@@ -16,8 +18,7 @@ use crate::target::Target;
 use promql_label::pattern_measure;
 use promql_text::{QuoteError, unquote_string};
 use promql_token::TokenId;
-use promql_token::cursor::Cursor;
-use promql_token::ids::{T_EQL_REGEX, T_NEQ_REGEX, T_STRING};
+use promql_token::ids::T_STRING;
 use std::alloc::{AllocError, Global};
 use thiserror::Error;
 
@@ -170,11 +171,9 @@ pub fn check_limits(alloc: Global, text: &str, limits: &Limits) -> Result<(), Li
             most: limits.max_len,
         });
     }
-    let most = limits.max_pattern_size;
-    let Measured { size, passed } = measure_patterns(alloc, text, most)?;
-    match passed {
+    match inspect_tokens(alloc, &limits.for_rules(), text)?.limit_fault(limits) {
         None => Ok(()),
-        Some(place) => Err(LimitFault::PatternsTooLarge { size, most, place }),
+        Some(fault) => Err(fault),
     }
 }
 
@@ -197,35 +196,15 @@ pub fn check_output(output: &str, limits: &Limits) -> Result<(), LongOutput>
 
 /// What the patterns of some tokens come to.
 #[derive(Clone, Copy)]
-struct Measured {
+pub(crate) struct Measured {
     /// The sum of their measures, or `usize::MAX`.
     size: usize,
     /// The token with which the sum is more than it may be.
     passed: Option<Span>,
 }
 
-/// What the patterns of a text come to, which may be so much.
-fn measure_patterns(alloc: Global, text: &str, most: usize) -> Result<Measured, AllocError>
-    ensures { IfOk result (AreMeasured text.now most (spec.token_measures text.now)) }
-{
-    let mut tokens = Cursor::new(text);
-    let mut measured = Measured {
-        size: 0,
-        passed: None,
-    };
-    let mut index: usize = 0;
-    let mut after_operator = false;
-    while let Some((id, token)) = tokens.next() {
-        let measure = token_measure(alloc, after_operator, id, token)?;
-        measured = measured.with_token(text, most, index, measure);
-        after_operator = id == T_EQL_REGEX || id == T_NEQ_REGEX;
-        index += 1;
-    }
-    Ok(measured)
-}
-
 /// The measure of a token, which comes after `=~` or `!~` or does not.
-fn token_measure(
+pub(crate) fn token_measure(
     alloc: Global,
     after_operator: bool,
     id: TokenId,
@@ -253,8 +232,38 @@ fn string_measure(alloc: Global, token: &str) -> Result<usize, AllocError>
 }
 
 impl Measured {
+    /// None.
+    pub(crate) fn new() -> Measured
+        ensures { (text : List ℕ) (most : ℕ) → AreMeasured text most [] result }
+    {
+        Measured {
+            size: 0,
+            passed: None,
+        }
+    }
+
+    /// The fault of a text that has these patterns, which may measure so much.
+    pub(crate) fn fault(&self, most: usize) -> Option<LimitFault>
+        ensures { (text : List ℕ) (limits : bounds.Limits) → length text ≤ limits.max_len → limits.max_pattern_size ≡ most
+            → AreMeasured text most (spec.token_measures text) self.now
+            → MatchOption result (spec.IsWithin text limits) (spec.IsLimitFault text limits) }
+    {
+        let place = self.passed?;
+        Some(LimitFault::PatternsTooLarge {
+            size: self.size,
+            most,
+            place,
+        })
+    }
+
     /// The same with one more token, the one of this index.
-    fn with_token(self, text: &str, most: usize, index: usize, measure: usize) -> Measured
+    pub(crate) fn with_token(
+        self,
+        text: &str,
+        most: usize,
+        index: usize,
+        measure: usize,
+    ) -> Measured
         ensures { (before after : List ℕ) (n : ℕ) → spec.token_measures text.now ≡ before ++ n ∷ after
             → length before ≡ index → measure ≡ min n usize.MAX → AreMeasured text.now most before self
             → AreMeasured text.now most (before ++ n ∷ []) result }

@@ -7,7 +7,8 @@ ghost use Rattle.promql_span.specs.Differences as spec;
 use promql_token::TokenId;
 use promql_token::cursor::Cursor;
 use promql_token::ids::{
-    T_ADD, T_AT, T_BOOL, T_COMMA, T_LEFT_PAREN, T_OPERATORS_END, T_OPERATORS_START, T_SUB,
+    T_ADD, T_AT, T_ATAN2, T_BOOL, T_COMMA, T_IDENTIFIER, T_LAND, T_LEFT_PAREN, T_LOR, T_LUNLESS,
+    T_OPERATORS_END, T_OPERATORS_START, T_SUB,
 };
 
 /// Whether this is the first token.
@@ -26,6 +27,16 @@ pub fn is_before_operand(id: TokenId) -> bool
         T_LEFT_PAREN | T_COMMA | T_BOOL => true,
         T_AT => false,
         _ => T_OPERATORS_START < id && id < T_OPERATORS_END,
+    }
+}
+
+/// What stands for a token after this one: a name for a word that is an operator elsewhere, where an operand begins.
+pub fn stands_for(before: TokenId, id: TokenId) -> TokenId
+    ensures { result ≡ spec.stands_for before id }
+{
+    match id {
+        T_LAND | T_LOR | T_LUNLESS | T_ATAN2 if is_before_operand(before) => T_IDENTIFIER,
+        _ => id,
     }
 }
 

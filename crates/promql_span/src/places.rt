@@ -1,6 +1,7 @@
 //! Parts of a text by its tokens. They are looked for by a `Lexer`, without an allocation.
 
-ghost use Rattle.std.specs.Prelude.{◌≡◌, ◌+◌, ◌<◌, ◌≤◌, ◌^◌, filter, length, None, Some};
+ghost use Rattle.std.specs.Prelude.{◌≡◌, ◌+◌, ◌<◌, ◌≤◌, ◌^◌, filter, length, slice_get, IfSome, List, None, Some};
+ghost use Rattle.promql_token.specs.declared.lexeme.Lexeme as code;
 ghost use Rattle.promql_span.specs.CharSpans.{IsCharAt};
 ghost use Rattle.promql_span.specs.PlacedTokens.{end_of, first_span, last_tokens, placed_tokens, span_of};
 ghost use Rattle.promql_span.specs.SpanSteps.{begins_in, cover, first_from, in_range, through};
@@ -91,6 +92,17 @@ pub fn span_of(token: Lexeme) -> Span
     Span {
         start: token.start,
         end: token.start + token.len,
+    }
+}
+
+/// The part that the next token of a text takes, or the end of the text where none comes.
+pub fn next_span(text: &str, next: Option<Lexeme>) -> Span
+    requires { IfSome next (λ x. x.start + x.len < 2 ^ 64) }
+    ensures { (left : List code.Lexeme) → next ≡ slice_get left 0 → result ≡ first_span text.now left }
+{
+    match next {
+        Some(token) => span_of(token),
+        None => end_of_text(text),
     }
 }
 

@@ -1,13 +1,10 @@
 //! Where the text of a query is sent to: docs/reference/programs.md, "Targets".
 
-ghost use Rattle.std.specs.Prelude.{◌≡◌, IfOk};
+ghost use Rattle.std.specs.Prelude.{◌≡◌};
 ghost use Rattle.promql_span.specs.Targets as spec;
 
 use crate::byte_escapes::byte_escape;
-use crate::differences::{Difference, first_difference};
-use crate::limits::Limits;
 use crate::span::Span;
-use std::alloc::{AllocError, Global};
 use thiserror::Error;
 
 /// What reads the text of a query after it was printed.
@@ -56,24 +53,6 @@ impl Target {
         match self {
             Target::Prometheus2 | Target::Prometheus3 => byte_escape(text),
             Target::Rules => None,
-        }
-    }
-}
-
-impl Limits {
-    /// The first part of a query that the target reads otherwise than what is printed.
-    ///
-    /// # Errors
-    ///
-    /// `AllocError` where an allocation failed.
-    pub fn difference(&self, alloc: Global, query: &str) -> Result<Option<Difference>, AllocError>
-        ensures { IfOk result (λ d. d ≡ spec.difference self.now query.now) }
-    {
-        match self.target {
-            Target::Prometheus2 | Target::Prometheus3 => {
-                first_difference(alloc, self.printed, query)
-            }
-            Target::Rules => Ok(None),
         }
     }
 }

@@ -1,0 +1,16 @@
+use Rattle.std.proofs.Common.{◌≡◌, ℕ, ◌++◌, drop, length}
+use Rattle.std.specs.List.{filter_map}
+use Rattle.promql_token.specs.Cursor.{tokens_left}
+use Rattle.promql_span.specs.Differences.{difference_at, differences, kinds}
+use Rattle.promql_span.specs.PlacedTokens.{placed_tokens}
+use Rattle.promql_span.specs.TokensLeft.{placed_left}
+use Rattle.promql_span.proofs.limits.Limits.differences.Given as goal
+
+abbrev pub decreases-loop-token : goal.decreases-loop-token
+decreases-loop-token l = length (tokens_left l.tokens)
+
+-- what was found, and what is found at the tokens to come, which have these places, is all
+abbrev pub invariant-loop-token : goal.invariant-loop-token
+invariant-loop-token l =
+    (n : ℕ) × (l.found.items ++ filter_map (difference_at l.query) (kinds l.self n l.before (tokens_left l.tokens)) ≡ differences l.self l.query)
+    × (placed_left l.places ≡ drop n (placed_tokens l.query))
