@@ -413,12 +413,6 @@ def rejected(query: str) -> Optional[Rejected]:
     return None
 
 
-def has_operator_as_metric(query: Query) -> bool:
-    """Whether a metric has the name of an operator between sets, which the library takes for the operator where it looks for refusals."""
-    found = (at for at, token in query.tokens("") if token.lower in ("and", "or", "unless"))
-    return any(at == 0 or not ends_operand(query.code, at - 1) for at in found)
-
-
 def is_told(query: str) -> Optional[bool]:
     """Whether the library says that Prometheus 2.42 rejects a query that its rules accept; None where it says that it is read otherwise."""
     promql.set_target("prometheus-2.42")
@@ -461,9 +455,6 @@ class Comparison:
 
     def _look_at_refusal(self, query: str, kinds: Sequence[str], there: Optional[str]) -> None:
         """Whether the library tells what the server rejects, and nothing else."""
-        if has_operator_as_metric(Query(query)):
-            self.counts["with an operator as a metric"] += 1
-            return
         told = is_told(query)
         self.counts[{None: "read otherwise", False: "not told", True: "told"}[told]] += 1
         if told is not None:

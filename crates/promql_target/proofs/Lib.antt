@@ -1,0 +1,2 @@
+pub mod FoundRefusals
+pub mod NoRefusals

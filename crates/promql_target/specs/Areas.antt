@@ -2,7 +2,7 @@
 use Rattle.std.specs.Prelude.{ℕ, ◌==◌, Bool, true, false, ◌&&◌, ◌||◌, not, if◌then◌else◌, [], ◌∷◌}
 use Rattle.std.specs.List.{list_any}
 use Rattle.promql_grammar.specs.Symbols.{is_plus_or_minus}
-use Rattle.promql_span.specs.Differences.{is_before_operand}
+use Rattle.promql_span.specs.Differences.{is_before_operand, stands_for}
 use Rattle.promql_token.specs.declared.ids.TheConstants.{T_BY, T_COMMA, T_GROUP_LEFT, T_GROUP_RIGHT, T_IGNORING, T_LEFT_BRACE, T_LEFT_BRACKET, T_LEFT_PAREN, T_OFFSET, T_ON, T_RIGHT_BRACE, T_RIGHT_BRACKET, T_RIGHT_PAREN, T_WITHOUT}
 use Rattle.promql_target.specs.declared.area.Area.{Area}
 use Rattle.promql_target.specs.declared.area.Area.TheVariants as area
@@ -58,8 +58,9 @@ abbrev pub token_in : Area → ℕ → ℕ
 token_in area.Matching id = if id == T_RIGHT_PAREN then T_COMMA else id
 token_in a id = id
 
+-- a word that is an operator elsewhere is a name where an operand begins
 abbrev pub token_for : Place → ℕ → ℕ
-token_for place id = token_in place.area id
+token_for place id = if is_after_operand place then token_in place.area id else stands_for T_COMMA (token_in place.area id)
 
 -- the `offset` before a time, or a sign after it
 abbrev pub is_offset : Place → ℕ → Bool

@@ -1,7 +1,6 @@
 -- What a server rejects of a query that these rules accept (docs/reference/targets.md).
-use Rattle.std.specs.Prelude.{ℕ, ◌+◌, ◌-◌, ◌^◌, Bool, true, false, ◌&&◌, ◌||◌, ◌==◌, not, nat_lt, if◌then◌else◌, List, [], ◌∷◌, bytes_eq, codes, drop, Option, Some, None, option_map, Result, Ok, Err, take}
+use Rattle.std.specs.Prelude.{ℕ, ◌+◌, ◌-◌, ◌^◌, Bool, true, false, ◌&&◌, ◌||◌, ◌==◌, not, nat_lt, if◌then◌else◌, List, [], ◌∷◌, ◌++◌, bytes_eq, codes, drop, map, Option, Some, None, option_map, option_to_list, Result, Ok, Err, slice_get, take}
 use Rattle.std.specs.List.{list_any}
-use Rattle.std.specs.Option.{option_or}
 use Rattle.promql_text.specs.Durations.{duration_of}
 use Rattle.promql_text.specs.Texts.{Text}
 use Rattle.promql_text.specs.declared.duration.DurationFault.{DurationFault}
@@ -10,6 +9,9 @@ use Rattle.promql_token.specs.declared.ids.TheConstants.{T_ADD, T_ANCHORED, T_AT
 use Rattle.promql_grammar.specs.Symbols.{is_plus_or_minus}
 use Rattle.promql_span.specs.Differences.{Tokens, after_signs, comes_first, is_before_operand}
 use Rattle.promql_span.specs.PlacedTokens.{first_span, placed_tokens}
+use Rattle.promql_span.specs.declared.differences.Printed.{Printed}
+use Rattle.promql_span.specs.declared.differences.Printed.TheVariants.{Nothing}
+use Rattle.promql_span.specs.declared.limits.Limits.{Limits}
 use Rattle.promql_span.specs.declared.target.Target.{Target}
 use Rattle.promql_span.specs.declared.target.Target.TheVariants.{Prometheus2, Prometheus3, Rules}
 use Rattle.promql_target.specs.Areas.{after, has_labels, is_after_operand, is_before_time, start}
@@ -137,7 +139,7 @@ word_in labels place t ts = found_if kind.LabelWithout (t.0 == T_WITHOUT)
 abbrev pub word_kind : Place → ℕ × Text → Tokens → Option RefusalKind
 word_kind place = word_in place.area place
 
--- ---- the first part that is rejected
+-- ---- the parts that are rejected
 
 -- what is rejected at this token, which has others after it
 abbrev pub kind_at : Place → ℕ × Text → Tokens → Option RefusalKind
@@ -165,14 +167,29 @@ abbrev pub counted : Target → Option RefusalKind → Option RefusalKind
 counted target None = None
 counted target (Some k) = if is_of target k then Some k else None
 
--- with the number of that token; `n` is that of the first
-abbrev pub first_kind : Target → ℕ → Place → Tokens → Option (ℕ × RefusalKind)
-first_kind target n place [] = None
-first_kind target n place (t ∷ ts) =
-    option_or (option_map (λ k. (n, k)) (counted target (kind_at place t ts))) (first_kind target (n + 1) (after place t.0) ts)
+-- all of them, each with the number of its token; `n` is that of the first
+abbrev pub kinds : Target → ℕ → Place → Tokens → List (ℕ × RefusalKind)
+kinds target n place [] = []
+kinds target n place (t ∷ ts) =
+    option_to_list (option_map (λ k. (n, k)) (counted target (kind_at place t ts))) ++ kinds target (n + 1) (after place t.0) ts
+
+abbrev pub kinds_of : Target → Text → List (ℕ × RefusalKind)
+kinds_of target s = kinds target 0 start (tokens_up_to_fault s)
 
 abbrev pub refusal_at : Text → ℕ × RefusalKind → Refusal
 refusal_at s (n, k) = record { kind = k; span = first_span s (drop n (placed_tokens s)) }
 
+abbrev pub refusals : Target → Text → List Refusal
+refusals target s = map (refusal_at s) (kinds_of target s)
+
 abbrev pub first_refusal : Target → Text → Option Refusal
-first_refusal target s = option_map (refusal_at s) (first_kind target 0 start (tokens_up_to_fault s))
+first_refusal target s = slice_get (refusals target s) 0
+
+-- what reads a query that is checked; any other may have parts that its target rejects
+abbrev pub checked_by : Printed → Target → Target
+checked_by Nothing target = target
+checked_by printed target = Rules
+
+-- the first part that the target rejects, where the query is checked
+abbrev pub refusal : Limits → Text → Option Refusal
+refusal limits s = first_refusal (checked_by limits.printed limits.target) s

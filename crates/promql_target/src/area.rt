@@ -3,7 +3,7 @@
 ghost use Rattle.std.specs.Prelude.{◌≡◌};
 ghost use Rattle.promql_target.specs.Areas as spec;
 
-use promql_span::is_before_operand;
+use promql_span::{is_before_operand, stands_for};
 use promql_token::TokenId;
 use promql_token::ids::{
     T_ADD, T_BY, T_COMMA, T_GROUP_LEFT, T_GROUP_RIGHT, T_IGNORING, T_LEFT_BRACE, T_LEFT_BRACKET,
@@ -112,9 +112,20 @@ impl Place {
         }
     }
 
-    /// What stands for a token: after the labels of an operator an operand comes, as after a comma.
+    /// What stands for a token: a comma for the end of an operator's labels, since an operand comes after it, and a name for the word
+    /// of an operator, where an operand begins.
     fn token_for(self, id: TokenId) -> TokenId
         ensures { result ≡ spec.token_for self id }
+    {
+        if self.is_after_operand() {
+            self.token_in(id)
+        } else {
+            stands_for(T_COMMA, self.token_in(id))
+        }
+    }
+
+    fn token_in(self, id: TokenId) -> TokenId
+        ensures { result ≡ spec.token_in self.area id }
     {
         match (self.area, id) {
             (Area::Matching, T_RIGHT_PAREN) => T_COMMA,

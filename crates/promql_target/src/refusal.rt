@@ -1,14 +1,21 @@
 //! The first part of a query that a server rejects: docs/reference/targets.md.
 
-ghost use Rattle.std.specs.Prelude.{◌≡◌, IfOk};
-ghost use Rattle.promql_token.specs.Cursor.{tokens_left};
+ghost use Rattle.std.specs.Prelude.{◌≡◌, ◌≤◌, ◌+◌, ◌∷◌, ◌++◌, ◌||◌, [], drop, length, map, option_map, option_to_list, slice_get, IfOk, IfSome, OnOk, ℕ};
+ghost use Rattle.std.specs.Option.{option_or};
+ghost use Rattle.promql_text.specs.Texts.{Text};
+ghost use Rattle.promql_token.specs.Cursor.{tokens_left, tokens_up_to_fault};
+ghost use Rattle.promql_span.specs.PlacedTokens.{placed_tokens};
+ghost use Rattle.promql_span.specs.declared.target.Target as targets;
+ghost use Rattle.promql_target.specs.Searching.{IsSearched};
 ghost use Rattle.promql_target.specs.Refusals as spec;
 
 use crate::area::{Area, Place, start};
 use crate::later::{is_later, is_logarithm};
-use promql_span::{Span, Target, after_signs, comes_first, is_before_operand, token_numbered};
+use promql_span::{
+    PlacedTokens, Span, Target, after_signs, comes_first, is_before_operand, next_span,
+    token_numbered,
+};
 use promql_text::parse_duration;
-use promql_token::TokenId;
 use promql_token::cursor::Cursor;
 use promql_token::ids::{
     T_ADD, T_ANCHORED, T_ATAN2, T_BY, T_DURATION, T_EQL, T_EQL_REGEX, T_FILL, T_FILL_LEFT,
@@ -16,6 +23,8 @@ use promql_token::ids::{
     T_NEQ, T_NEQ_REGEX, T_NUMBER, T_RIGHT_BRACE, T_RIGHT_PAREN, T_SMOOTHED, T_STRING, T_SUB,
     T_WITHOUT,
 };
+use promql_token::{Lexeme, TokenId};
+use std::alloc::{AllocError, Global};
 use thiserror::Error;
 
 /// What a server rejects, and these rules accept.
@@ -70,7 +79,7 @@ pub enum RefusalKind {
 
 impl RefusalKind {
     /// Whether a target rejects it.
-    fn is_of(self, target: Target) -> bool
+    pub(crate) fn is_of(self, target: Target) -> bool
         ensures { result ≡ spec.is_of target self }
     {
         match target {
@@ -119,19 +128,118 @@ pub fn first_refusal(target: Target, query: &str) -> Option<Refusal>
     ensures { result ≡ spec.first_refusal target query.now }
 {
     let mut tokens = Cursor::new(query);
-    let mut place = start();
-    let mut index: usize = 0;
-    while let Some((id, token)) = tokens.next() {
-        if let Some(kind) = kind_at(place, id, token, tokens)
-            && kind.is_of(target)
-        {
-            let span = token_numbered(query, index);
-            return Some(Refusal { kind, span });
-        }
-        place = place.after(id);
-        index += 1;
+    let mut found = FoundRefusal::new();
+    while let Some(token) = tokens.next() {
+        found = found.with_token(target, query, token, tokens);
     }
-    None
+    found.first
+}
+
+/// What a pass over the first tokens of a query found.
+#[derive(Clone, Copy)]
+pub(crate) struct FoundRefusal {
+    place: Place,
+    /// How many tokens there were.
+    index: usize,
+    /// The first part that is rejected.
+    pub(crate) first: Option<Refusal>,
+}
+
+impl FoundRefusal {
+    /// Before the first token.
+    pub(crate) fn new() -> FoundRefusal
+        ensures { (target : targets.Target) (query : Text) → IsSearched target query (tokens_up_to_fault query) result }
+    {
+        FoundRefusal {
+            place: start(),
+            index: 0,
+            first: None,
+        }
+    }
+
+    /// The same with one more token of the query, which has `rest` after it.
+    pub(crate) fn with_token(
+        self,
+        target: Target,
+        query: &str,
+        token: (TokenId, &str),
+        rest: Cursor<'_>,
+    ) -> FoundRefusal
+        requires { IsSearched target query.now ((token.0, token.1.now) ∷ tokens_left rest) self }
+        ensures { IsSearched target query.now (tokens_left rest.entry) result }
+    {
+        let kind = refused_kind(target, self.place, token, rest);
+        FoundRefusal {
+            place: self.place.after(token.0),
+            index: self.index + 1,
+            first: self.first_with(query, kind),
+        }
+    }
+
+    /// The first part, where this is rejected at one more token.
+    fn first_with(&self, query: &str, kind: Option<RefusalKind>) -> Option<Refusal>
+        ensures { result ≡ option_or self.now.first (option_map (spec.refusal_at query.now) (option_map (λ k. (self.now.index, k)) kind)) }
+    {
+        if let Some(first) = self.first {
+            return Some(first);
+        }
+        let kind = kind?;
+        let span = token_numbered(query, self.index);
+        Some(Refusal { kind, span })
+    }
+}
+
+/// All such parts, in the order of the text. It takes the time to read the query.
+///
+/// # Errors
+///
+/// `AllocError` where an allocation failed.
+pub fn refusals(alloc: Global, target: Target, query: &str) -> Result<Vec<Refusal>, AllocError>
+    ensures { IfOk result (λ rs. rs.items ≡ spec.refusals target query.now) }
+{
+    let mut found = Vec::new(alloc);
+    let mut tokens = Cursor::new(query);
+    let mut places = PlacedTokens::new(query);
+    let mut place = start();
+    while let Some(token) = tokens.next() {
+        let lexeme = places.next();
+        let kind = refused_kind(target, place, token, tokens);
+        push_refusal(&mut found, query, lexeme, kind)?;
+        place = place.after(token.0);
+    }
+    Ok(found)
+}
+
+/// Adds the part at a token, where this is rejected there.
+fn push_refusal(
+    found: &mut Vec<Refusal>,
+    query: &str,
+    token: Option<Lexeme>,
+    kind: Option<RefusalKind>,
+) -> Result<(), AllocError>
+    requires { IfSome token (λ x. x.start + x.len ≤ length query.now) }
+    ensures { (n : ℕ) → token ≡ slice_get (drop n (placed_tokens query.now)) 0 → OnOk result (found.new.items
+        ≡ found.old.items ++ map (spec.refusal_at query.now) (option_to_list (option_map (λ k. (n, k)) kind))) }
+{
+    let Some(kind) = kind else {
+        return Ok(());
+    };
+    let span = next_span(query, token);
+    found.push(Refusal { kind, span })?;
+    Ok(())
+}
+
+/// What the target rejects at a token, which has `rest` after it.
+fn refused_kind(
+    target: Target,
+    place: Place,
+    token: (TokenId, &str),
+    rest: Cursor<'_>,
+) -> Option<RefusalKind>
+    ensures { result ≡ spec.counted target (spec.kind_at place (token.entry.0, token.entry.1.now) (tokens_left rest.entry)) }
+{
+    let kind = kind_at(place, token.0, token.1, rest)?;
+    kind.is_of(target).then_some(kind)
 }
 
 /// What is rejected at a token, which has `rest` after it.
@@ -303,9 +411,18 @@ fn operand_kind(id: TokenId, word: &str, rest: Cursor<'_>) -> Option<RefusalKind
             Some(RefusalKind::Fill)
         }
         T_LIMITK | T_LIMIT_RATIO if is_aggregation(rest) => Some(RefusalKind::LaterAggregator),
-        _ if comes_first(T_LEFT_PAREN, rest) => call_kind(word, past_token(rest)),
+        _ if has_refused_call(word) && comes_first(T_LEFT_PAREN, rest) => {
+            call_kind(word, past_token(rest))
+        }
         _ => None,
     }
+}
+
+/// Whether some call of the function of this name is rejected.
+fn has_refused_call(name: &str) -> bool
+    ensures { result ≡ (spec.is_later name.now || spec.is_logarithm name.now) }
+{
+    is_later(name) || is_logarithm(name)
 }
 
 /// Whether what comes makes an aggregation of the operator before it.

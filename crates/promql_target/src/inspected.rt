@@ -1,0 +1,64 @@
+//! All that one pass over the tokens of a query tells of it: docs/reference/programs.md, "Limits of a query" and "Targets".
+
+ghost use Rattle.std.specs.Prelude.{◌≡◌, IfErr, IfOk};
+ghost use Rattle.promql_span.specs.Differences.{difference};
+ghost use Rattle.promql_span.specs.QueryLimits.{IsLimitFault, IsWithin};
+ghost use Rattle.promql_target.specs.Refusals as spec;
+
+use crate::refusal::{FoundRefusal, Refusal};
+use promql_span::limits::{LimitFault, Limits};
+use promql_span::{Difference, Inspection, Printed, Target};
+use promql_token::cursor::Cursor;
+use std::alloc::Global;
+
+/// What the target of a query that is within its limits makes of it.
+#[derive(Clone, Copy, Debug, PartialEq, Eq)]
+pub struct Inspected {
+    /// The first part that it reads otherwise than what is printed.
+    pub difference: Option<Difference>,
+    /// The first part that it rejects, where the query is checked.
+    pub refusal: Option<Refusal>,
+}
+
+/// What reads a query that is checked.
+fn checked_by(printed: Printed, target: Target) -> Target
+    ensures { result ≡ spec.checked_by printed target }
+{
+    match printed {
+        Printed::Nothing => target,
+        Printed::Tree | Printed::Layout | Printed::SortedLayout => Target::Rules,
+    }
+}
+
+/// What the target makes of a query, where the query is within its limits. The tokens up to a lexical fault are looked at once.
+///
+/// # Errors
+///
+/// Those of `check_limits`.
+pub fn inspect(alloc: Global, limits: &Limits, query: &str) -> Result<Inspected, LimitFault>
+    ensures within { IfOk result (λ i. IsWithin query.now limits.now) }
+    ensures difference { IfOk result (λ i. i.difference ≡ difference limits.now query.now) }
+    ensures refusal { IfOk result (λ i. i.refusal ≡ spec.refusal limits.now query.now) }
+    ensures fault { IfErr result (IsLimitFault query.now limits.now) }
+{
+    let len = query.len();
+    let most = limits.max_len;
+    if len > most {
+        return Err(LimitFault::TooLong { len, most });
+    }
+    let target = checked_by(limits.printed, limits.target);
+    let mut tokens = Cursor::new(query);
+    let mut found = FoundRefusal::new();
+    let mut inspection = Inspection::new();
+    while let Some(token) = tokens.next() {
+        found = found.with_token(target, query, token, tokens);
+        inspection = inspection.with_token(alloc, limits, query, token, tokens)?;
+    }
+    match inspection.limit_fault(limits) {
+        Some(fault) => Err(fault),
+        None => Ok(Inspected {
+            difference: inspection.difference(query),
+            refusal: found.first,
+        }),
+    }
+}
