@@ -1,5 +1,5 @@
 -- Why and where a query is rejected (docs/reference/programs.md, "Errors").
-use Rattle.std.specs.Prelude.{◌≡◌, ℕ, MatchOption, Option, Some, None, Ok, Err, encode_utf8_all}
+use Rattle.std.specs.Prelude.{◌≡◌, ℕ, List, ◌++◌, map, MatchOption, Option, Some, None, Ok, Err, encode_utf8_all}
 use Rattle.std.specs.Str.{chars}
 use Rattle.promql_span.specs.Locations.{location_of}
 use Rattle.promql_text.specs.Texts.{Text}
@@ -7,22 +7,22 @@ use Rattle.promql_ast.specs.Tree.{Tree}
 use Rattle.promql_span.specs.ErrorPlaces.{IsPlaceOf}
 use Rattle.promql_span.specs.PlacedTokens.{end_of}
 use Rattle.promql_span.specs.QueryLimits.{IsLimitFault, IsWithin}
-use Rattle.promql_span.specs.Targets.{difference}
+use Rattle.promql_span.specs.Differences.{difference, differences}
 use Rattle.promql_span.specs.Snippets.{snippet_text}
 use Rattle.promql_span.specs.Unexpected.{IsUnexpected, unexpected_text}
 use Rattle.promql_span.specs.declared.unexpected.Unexpected.{Unexpected}
 use Rattle.promql_span.specs.declared.limits.LimitFault.{LimitFault}
 use Rattle.promql_span.specs.declared.limits.LimitFault.TheVariants.{Memory, TooLong, PatternsTooLarge}
+use Rattle.promql_span.specs.declared.differences.Difference.{Difference}
 use Rattle.promql_span.specs.declared.limits.Limits.{Limits}
-use Rattle.promql_span.specs.declared.differences.Printed.{Printed}
-use Rattle.promql_span.specs.declared.differences.Printed.TheVariants.{Nothing}
 use Rattle.promql_span.specs.declared.span.Span.{Span}
 use Rattle.promql_span.specs.declared.target.Target.{Target}
-use Rattle.promql_target.specs.Refusals.{first_refusal}
+use Rattle.promql_target.specs.Refusals.{refusal, refusals}
 use Rattle.promql_target.specs.declared.refusal.Refusal.{Refusal}
 use Rattle.promql_syntax.specs.ParseAnswers.{IsAnswerTo, plain_error_of}
 use Rattle.promql_syntax.specs.declared.parser.ParseError.TheVariants.{Syntax, TooDeep}
 use Rattle.promql_report.specs.declared.rejection.TheConstants.{PLAIN_SYNTAX_ERROR, TOO_MANY_LEVELS}
+use Rattle.promql_report.specs.declared.findings.Finding.{Finding}
 use Rattle.promql_report.specs.declared.rejection.Reason.{Reason}
 use Rattle.promql_report.specs.declared.rejection.Reason.TheVariants.{Limit, Otherwise, Parse, Refused}
 use Rattle.promql_report.specs.declared.rejection.Rejection.{Rejection}
@@ -42,14 +42,6 @@ abbrev pub limit_place : Text → LimitFault → Option Span
 limit_place query Memory = None
 limit_place query (TooLong len most) = Some (end_of query)
 limit_place query (PatternsTooLarge size most place) = Some place
-
--- the first part that the target rejects, where the query is checked
-abbrev pub refusal_where : Printed → Target → Text → Option Refusal
-refusal_where Nothing target query = first_refusal target query
-refusal_where printed target query = None
-
-abbrev pub refusal : Limits → Text → Option Refusal
-refusal limits query = refusal_where limits.printed limits.target query
 
 -- the query is not within its limits, or it is and the parser rejects it, or its target reads this part otherwise, or it is checked and its
 -- target rejects this part; and that is the place
@@ -90,3 +82,13 @@ IsRead limits query t = (IsWithin query limits × (difference limits query ≡ N
 -- it has a tree
 abbrev pub IsParsed : Limits → Text → Type 0
 IsParsed limits query = (t : Tree) × IsRead limits query t
+
+abbrev pub read_otherwise : Difference → Finding
+read_otherwise d = record { reason = Otherwise d.kind; span = d.span }
+
+abbrev pub refused : Target → Refusal → Finding
+refused target r = record { reason = Refused target r.kind; span = r.span }
+
+-- the parts of a query that its target reads otherwise, and those that it rejects
+abbrev pub findings : Limits → Text → List Finding
+findings limits query = map read_otherwise (differences limits query) ++ map (refused limits.target) (refusals limits.target query)

@@ -1,4 +1,5 @@
 //! Why and where a query is rejected. docs/reference/programs.md has the rules.
 #![tactic(auto)]
 
+pub mod findings;
 pub mod rejection;

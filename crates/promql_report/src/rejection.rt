@@ -1,24 +1,27 @@
 //! The tree of a query, or why and where it is rejected.
 
-ghost use Rattle.std.specs.Prelude.{◌≡◌, IfOk, MatchResult, None, Ok, string_bytes};
+ghost use Rattle.std.specs.Prelude.{◌≡◌, IfOk, MatchResult, Ok, string_bytes};
 ghost use Rattle.std.specs.Bool.{Decides};
 ghost use Rattle.promql_ast.specs.View.{tree_of};
 ghost use Rattle.promql_span.specs.Locations.{location_of};
 ghost use Rattle.promql_span.specs.QueryLimits.{IsWithin};
-ghost use Rattle.promql_span.specs.Targets.{difference};
+ghost use Rattle.promql_span.specs.Differences.{difference};
 ghost use Rattle.promql_syntax.specs.ParseAnswers.{IsAnswerTo};
 ghost use Rattle.promql_syntax.specs.declared.parser.ParseError.TheVariants as parse_errors;
+ghost use Rattle.promql_target.specs.Refusals.{refusal};
 ghost use Rattle.promql_report.specs.declared.rejection.Reason.TheVariants as reasons;
 ghost use Rattle.promql_report.specs.Rejecting as spec;
 ghost use Rattle.promql_report.specs.Rejecting.{IsMessage, IsPlainMessage, IsRead, IsRejection, IsTold, limit_place, reason_number};
 
-use promql_ast::{Expr, drop_expr};
+use promql_ast::{CheckFault, Expr, NodeFault, drop_expr};
 use promql_span::diagnosis::{Diagnosis, diagnose};
-use promql_span::limits::{LimitFault, Limits, check_limits};
+use promql_span::limits::{LimitFault, Limits};
 use promql_span::unexpected::{Unexpected, unexpected_at};
-use promql_span::{Difference, DifferenceKind, Location, Printed, Span, Target, end_of_text};
+use promql_span::{Difference, DifferenceKind, Location, Span, Target, end_of_text};
 use promql_syntax::parser::ParseError;
-use promql_target::{Refusal, RefusalKind, first_refusal};
+use promql_target::{Inspected, Refusal, RefusalKind, inspect};
+use promql_text::NumberFault;
+use promql_token::{LexFault, LexFaultKind};
 use std::alloc::{AllocError, Global};
 use thiserror::Error;
 
@@ -59,7 +62,7 @@ impl Reason {
         matches!(self, Reason::Parse(ParseError::Syntax))
     }
 
-    /// The message for people without what was expected: of more than 512 levels it says what to do about them.
+    /// The message for people without what was expected: of more than 512 levels, and of some that Prometheus takes, it says what to do.
     ///
     /// # Errors
     ///
@@ -70,7 +73,37 @@ impl Reason {
         match self {
             Reason::Parse(ParseError::Syntax) => String::from_str(alloc, PLAIN_SYNTAX_ERROR),
             Reason::Parse(ParseError::TooDeep) => String::from_str(alloc, TOO_MANY_LEVELS),
-            _ => self.to_string(alloc),
+            _ => match self.advice() {
+                Some(advice) => format!(in alloc; "{self}; {advice}"),
+                None => self.to_string(alloc),
+            },
+        }
+    }
+
+    /// What to write in place of what Prometheus takes (docs/reference/targets.md, "What the server accepts").
+    fn advice(&self) -> Option<&'static str> {
+        match self {
+            Reason::Parse(ParseError::Number(NumberFault::TooManyDigits)) => {
+                Some("Prometheus rounds it to a floating-point number")
+            }
+            Reason::Parse(
+                ParseError::Lex(
+                    LexFault {
+                        kind: LexFaultKind::InBrackets,
+                        ch: Some('#'),
+                        ..
+                    },
+                ),
+            ) => Some("Prometheus takes a comment there: write it after the bracket"),
+            Reason::Parse(ParseError::UnknownFunction(name)) if name.as_str() == "holt_winters" => {
+                Some(
+                    "Prometheus 2 has it: write double_exponential_smoothing, its name in Prometheus 3",
+                )
+            }
+            Reason::Parse(ParseError::Check(CheckFault::Node(NodeFault::AtBeforeRange))) => {
+                Some("Prometheus takes it: write the range first")
+            }
+            _ => None,
         }
     }
 }
@@ -156,12 +189,15 @@ pub fn read_query(
 ) -> Result<Result<Expr, Rejection>, AllocError>
     ensures { IfOk result (λ r. MatchResult r (λ e. IsRead limits.now query.now (tree_of e)) (IsRejection limits.now query.now)) }
 {
-    if let Err(fault) = check_limits(alloc, query, limits) {
-        let span = limit_span(query, fault).ok_or(AllocError)?;
-        return Ok(Err(Rejection::new(query, Reason::Limit(fault), span)));
-    }
+    let inspected = match inspect(alloc, limits, query) {
+        Ok(inspected) => inspected,
+        Err(fault) => {
+            let span = limit_span(query, fault).ok_or(AllocError)?;
+            return Ok(Err(Rejection::new(query, Reason::Limit(fault), span)));
+        }
+    };
     match diagnose(alloc, query) {
-        Ok(expr) => for_target(alloc, limits, query, expr),
+        Ok(expr) => Ok(for_target(limits, query, inspected, expr)),
         Err(Diagnosis { error, span }) => match span {
             Some(span) => Ok(Err(Rejection::new(query, Reason::Parse(error), span))),
             None => Err(AllocError),
@@ -169,54 +205,40 @@ pub fn read_query(
     }
 }
 
-/// The tree of a query that is within its limits, or the first part of the query that its target reads otherwise.
+/// The tree of a query that is within its limits, or the first part of the query that its target reads otherwise, or rejects where it is
+/// checked.
 fn for_target(
-    alloc: Global,
     limits: &Limits,
     query: &str,
+    inspected: Inspected,
     expr: Expr,
-) -> Result<Result<Expr, Rejection>, AllocError>
+) -> Result<Expr, Rejection>
     requires within { IsWithin query.now limits.now }
+    requires difference { inspected.difference ≡ difference limits.now query.now }
+    requires refusal { inspected.refusal ≡ refusal limits.now query.now }
     requires answer { IsAnswerTo query.now (Ok (tree_of expr)) }
-    ensures { IfOk result (λ r. MatchResult r (λ e. IsRead limits.now query.now (tree_of e)) (IsRejection limits.now query.now)) }
-{
-    match limits.difference(alloc, query) {
-        Ok(None) => Ok(unless_refused(limits, query, expr)),
-        Ok(Some(Difference { kind, span })) => {
-            drop_expr(expr);
-            Ok(Err(Rejection::new(query, Reason::Otherwise(kind), span)))
-        }
-        Err(error) => {
-            drop_expr(expr);
-            Err(error)
-        }
-    }
-}
-
-/// The tree of a query that its target reads as it is printed, or the first part that the target rejects where it is checked.
-fn unless_refused(limits: &Limits, query: &str, expr: Expr) -> Result<Expr, Rejection>
-    requires within { IsWithin query.now limits.now }
-    requires answer { IsAnswerTo query.now (Ok (tree_of expr)) }
-    requires same { difference limits.now query.now ≡ None }
     ensures { MatchResult result (λ e. IsRead limits.now query.now (tree_of e)) (IsRejection limits.now query.now) }
 {
-    match refusal(limits, query) {
-        Some(Refusal { kind, span }) => {
+    match inspected {
+        Inspected {
+            difference: Some(Difference { kind, span }),
+            ..
+        } => {
+            drop_expr(expr);
+            Err(Rejection::new(query, Reason::Otherwise(kind), span))
+        }
+        Inspected {
+            difference: None,
+            refusal: Some(Refusal { kind, span }),
+        } => {
             drop_expr(expr);
             let reason = Reason::Refused(limits.target, kind);
             Err(Rejection::new(query, reason, span))
         }
-        None => Ok(expr),
-    }
-}
-
-/// The first part of a query that its target rejects, where it is checked.
-fn refusal(limits: &Limits, query: &str) -> Option<Refusal>
-    ensures { result ≡ spec.refusal limits.now query.now }
-{
-    match limits.printed {
-        Printed::Nothing => first_refusal(limits.target, query),
-        Printed::Tree | Printed::Layout | Printed::SortedLayout => None,
+        Inspected {
+            difference: None,
+            refusal: None,
+        } => Ok(expr),
     }
 }
 
