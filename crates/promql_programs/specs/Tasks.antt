@@ -5,6 +5,7 @@ use Rattle.promql_ast.specs.Tree.{Tree}
 use Rattle.promql_json.specs.declared.error.JsonError.TheVariants.{NumberTooWide}
 use Rattle.promql_report.specs.declared.rejection.Reason.TheVariants.{Parse}
 use Rattle.promql_run.specs.Running.{HasFormatText, format_text}
+use Rattle.promql_run.specs.declared.ended.Ended.{Ended}
 use Rattle.promql_run.specs.declared.format.Format.{Format}
 use Rattle.promql_span.specs.ErrorPlaces.{IsPlaceOf}
 use Rattle.promql_span.specs.Locations.{location_of}
@@ -21,6 +22,10 @@ IsInputAnswer is_file IsAnswer input answer = (text : Text) × IsTextIn is_file 
 -- why it has none
 abbrev pub FailsInput : (is_file : Bool) → (QueryError → Text → Type 0) → QueryError → Text → Type 0
 FailsInput is_file Fails e input = (text : Text) × IsTextIn is_file input text × Fails e text
+
+-- beside an answer nothing is said
+abbrev pub IsSilent : {E : Type 0} → Text → Ended E → Ended E → Type 0
+IsSilent input errors errors_after = errors_after ≡ errors
 
 -- why a query has no text in a format: the parser rejects it at this place, or a number of its tree is too wide; or an allocation failed
 abbrev pub FailsToPrint : Format → QueryError → Text → Type 0

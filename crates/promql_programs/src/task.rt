@@ -6,7 +6,7 @@ ghost use Rattle.promql_run.specs.Programs.{AnswersQuery};
 ghost use Rattle.promql_lines.specs.QueryErrors.{query_error_number};
 ghost use Rattle.promql_lines.specs.declared.query_error.QueryError as query_error;
 ghost use Rattle.promql_lines.specs.declared.query_error.QueryError.TheVariants as errors;
-ghost use Rattle.promql_programs.specs.Tasks.{FailsInput, IsInputAnswer};
+ghost use Rattle.promql_programs.specs.Tasks.{FailsInput, IsInputAnswer, IsSilent};
 
 use crate::reports::{say, say_error};
 use crate::source::Source;
@@ -48,7 +48,7 @@ pub fn answer_query<T: Task, R: Read, W: Write, E: Write>(
     errors: &mut Ended<E>,
 ) -> u8
     ensures answers { AnswersQuery R.remaining W.contents (IsInputAnswer source.now.is_file (T.makes task.now)) query_error_number
-        (FailsInput source.now.is_file (T.fails task.now))
+        (FailsInput source.now.is_file (T.fails task.now)) IsSilent
         reader.old reader.new writer.old writer.new errors.old errors.new result }
     // Where nobody reads what is written, nothing is said.
     ensures closed { result ≡ 5 → writer.new.closed ≡ true → errors.new ≡ errors.old }

@@ -22,7 +22,7 @@ returns-in-Ok-answer-clause-answers g c =
       };
       ok = λ zero. (input, read, c.as_str.utf8, (answer, made, c.write_answer.ensures.text zero));
       flushed = c.write_answer.ensures.flushed;
-      silent = c.write_answer.ensures.silent;
+      said = λ zero. (input, read, c.as_str.utf8, c.write_answer.ensures.silent zero);
       write = c.write_answer.ensures.write;
       begun = λ five. (input, read, c.as_str.utf8, (answer, made, c.write_answer.ensures.begun five));
       unwritten = λ some other. absurd (⊎_elim some other known);
@@ -43,7 +43,7 @@ returns-clause-answers g c =
       };
       ok = λ zero. absurd (not_status e 0 refl (sym number ∙ zero));
       flushed = λ zero. absurd (not_status e 0 refl (sym number ∙ zero));
-      silent = λ zero. absurd (not_status e 0 refl (sym number ∙ zero));
+      said = λ zero. absurd (not_status e 0 refl (sym number ∙ zero));
       write = λ five. absurd (not_status e 5 refl (sym number ∙ five));
       begun = λ five. absurd (not_status e 5 refl (sym number ∙ five));
       unwritten = λ some other. refl;
