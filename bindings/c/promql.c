@@ -50,6 +50,8 @@ void call_places(const struct limits *limits, const void *query, size_t query_le
                  size_t buffer_size, struct promql_result *result);
 void call_parts(const struct limits *limits, const void *query, size_t query_length, void *buffer,
                 size_t buffer_size, struct promql_result *result);
+void call_differences(const struct limits *limits, const void *query, size_t query_length, void *buffer,
+                      size_t buffer_size, struct promql_result *result);
 void call_tokens(const struct limits *limits, const void *text, size_t text_length, void *buffer,
                  size_t buffer_size, struct promql_result *result);
 void call_check(const struct limits *limits, const void *query, size_t query_length, void *buffer,
@@ -248,6 +250,17 @@ uint32_t promql_parts(const char *query, size_t query_length, char *buffer, size
         return refuse(status, result);
     struct limits limits = limits_now();
     call_parts(&limits, start_of(query), query_length, room_of(buffer), buffer_size, result);
+    return result->status;
+}
+
+uint32_t promql_differences(const char *query, size_t query_length, char *buffer, size_t buffer_size,
+                            struct promql_result *result)
+{
+    uint32_t status = look_at(query, query_length, buffer, buffer_size, result);
+    if (status != PROMQL_OK)
+        return refuse(status, result);
+    struct limits limits = limits_now();
+    call_differences(&limits, start_of(query), query_length, room_of(buffer), buffer_size, result);
     return result->status;
 }
 

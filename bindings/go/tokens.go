@@ -73,6 +73,22 @@ type Part struct {
 	Place
 }
 
+// Difference is a part of a query that the target reads otherwise, or rejects: its bytes in the query, and why.
+type Difference struct {
+	// IsRejected says that the target rejects it.
+	IsRejected bool
+	Place
+	Message string
+}
+
+// UnmarshalJSON reads a difference as the library writes it.
+func (d *Difference) UnmarshalJSON(text []byte) error {
+	var status int
+	err := json.Unmarshal(text, &[]any{&status, &d.Start, &d.End, &d.Message})
+	d.IsRejected = status == C.PROMQL_REFUSED
+	return err
+}
+
 // UnmarshalJSON reads a token as the library writes it.
 func (t *Token) UnmarshalJSON(text []byte) error {
 	return readRow(text, &t.Kind, &t.Place)
@@ -100,6 +116,20 @@ func Tokens(text string) ([]Token, error) {
 	var tokens []Token
 	err = json.Unmarshal([]byte(shown), &tokens)
 	return tokens, err
+}
+
+// Differences returns what the target (SetTarget) reads otherwise of a query than these rules do, and then what it rejects of it. Check
+// returns an error for the first of them.
+func Differences(query string) ([]Difference, error) {
+	shown, err := textOf(query, func(query *C.char, length C.size_t, buffer *C.char, size C.size_t, result *C.struct_promql_result) {
+		C.promql_differences(query, length, buffer, size, result)
+	})
+	if err != nil {
+		return nil, err
+	}
+	var differences []Difference
+	err = json.Unmarshal([]byte(shown), &differences)
+	return differences, err
 }
 
 // Parts returns the parts of each node of the query's tree, in the order of Places. Those of one node are in the order in which they end.

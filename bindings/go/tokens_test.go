@@ -37,6 +37,24 @@ func TestTokens(t *testing.T) {
 	}
 }
 
+func TestDifferences(t *testing.T) {
+	found, err := promql.Differences("exp(1) + -0")
+	wanted := []promql.Difference{
+		{IsRejected: false, Place: promql.Place{Start: 9, End: 10}, Message: "Prometheus reads this otherwise: the number is negative zero there, and zero here"},
+		{IsRejected: true, Place: promql.Place{Start: 0, End: 3}, Message: "Prometheus 3 rejects this: the argument is an instant vector there; write vector(..) around the number"},
+	}
+	if err != nil || !reflect.DeepEqual(found, wanted) {
+		t.Errorf("%v %v", found, err)
+	}
+	if found, err := promql.Differences("a"); err != nil || len(found) != 0 {
+		t.Errorf("%v %v", found, err)
+	}
+	var rejected *promql.QueryError
+	if _, err := promql.Differences("1 +"); !errors.As(err, &rejected) || rejected.Start != 3 {
+		t.Error(err)
+	}
+}
+
 func TestParts(t *testing.T) {
 	query := "sum by (job) (rate(a{job='é'}[5m] offset 1m)) > on (b) group_left (c) d"
 	found, err := promql.Parts(query)

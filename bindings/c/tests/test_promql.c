@@ -39,7 +39,7 @@ static void *allocate(size_t size)
 
 /* A call with its arguments. */
 enum call { CALL_PRINT, CALL_CANONICAL, CALL_CHECK, CALL_SNIPPET, CALL_ENFORCE, CALL_COLLECT, CALL_PRINT_TREE, CALL_EXPLAIN, CALL_PLACES, CALL_PARTS,
-            CALL_TOKENS };
+            CALL_TOKENS, CALL_DIFFERENCES };
 
 struct request {
     enum call call;
@@ -64,6 +64,8 @@ static uint32_t make_call(const struct request *r, char *buffer, size_t size, st
         return promql_places(r->query, r->length, buffer, size, result);
     case CALL_PARTS:
         return promql_parts(r->query, r->length, buffer, size, result);
+    case CALL_DIFFERENCES:
+        return promql_differences(r->query, r->length, buffer, size, result);
     case CALL_TOKENS:
         return promql_tokens(r->query, r->length, buffer, size, result);
     case CALL_PRINT_TREE: /* (`end` says whether parentheses are put) */
@@ -522,6 +524,25 @@ static void test_parts(void)
     CHECK(gives(of_query(CALL_PARTS, "1 +"), PROMQL_REJECTED, "invalid promql query"));
     CHECK(has_place(of_query(CALL_PARTS, "1 +"), 3, 3, 1, 4));
     CHECK(gives(of_query(CALL_PARTS, "\xff"), PROMQL_NOT_UTF8, "input is not UTF-8"));
+}
+
+/* What the target reads otherwise, and then what it rejects, each in the order of the text. */
+static void test_differences(void)
+{
+    CHECK(gives(of_query(CALL_DIFFERENCES, "a"), PROMQL_OK, "[]"));
+    CHECK(gives(of_query(CALL_DIFFERENCES, "exp(1) + -0"), PROMQL_OK,
+                "[[23,9,10,\"Prometheus reads this otherwise: the number is negative zero there, and zero here\"],"
+                "[24,0,3,\"Prometheus 3 rejects this: the argument is an instant vector there; write vector(..) around the number\"]]"));
+    CHECK(gives(of_query(CALL_DIFFERENCES, "a[300] + and offset 5m"), PROMQL_OK, "[]"));
+    promql_set_target(2);
+    CHECK(gives(of_query(CALL_DIFFERENCES, "a[300]"), PROMQL_OK,
+                "[[24,2,5,\"Prometheus 2.42 rejects this: a length of time without a unit is of a later version; write 300s for 300\"]]"));
+    promql_set_target(1);
+    CHECK(gives(of_query(CALL_DIFFERENCES, "exp(1) + -0"), PROMQL_OK, "[]"));
+    promql_set_target(0);
+    CHECK(gives(of_query(CALL_DIFFERENCES, "1 +"), PROMQL_REJECTED, "invalid promql query"));
+    CHECK(has_place(of_query(CALL_DIFFERENCES, "1 +"), 3, 3, 1, 4));
+    CHECK(gives(of_query(CALL_DIFFERENCES, "\xff"), PROMQL_NOT_UTF8, "input is not UTF-8"));
 }
 
 static void test_tokens(void)
@@ -991,6 +1012,7 @@ int main(int argc, char **argv)
         test_collecting();
         test_places();
         test_parts();
+        test_differences();
         test_tokens();
         test_trees();
         test_pointers();

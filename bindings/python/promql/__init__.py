@@ -35,6 +35,7 @@ else:
 
 __all__ = [
     "BareInfoError",
+    "Difference",
     "Error",
     "LargeEnforcedError",
     "LongOutputError",
@@ -55,6 +56,7 @@ __all__ = [
     "canonical_many",
     "check",
     "collect",
+    "differences",
     "enforce",
     "format",
     "format_query",
@@ -386,6 +388,29 @@ def places(query: str) -> List[Tuple[int, int]]:
         return found
     before = _characters(query)
     return [(before[start], before[end]) for start, end in found]
+
+
+class Difference(NamedTuple):
+    """The part `query[start:end]` of a query, which the target reads otherwise, or rejects where `is_rejected`, and why."""
+
+    is_rejected: bool
+    start: int
+    end: int
+    message: str
+
+
+def differences(query: str) -> List[Difference]:
+    """What the target reads otherwise of a query than these rules do, and then what it rejects of it (`set_target`).
+
+    `check` raises ReadOtherwiseError or RefusedError for the first of them.
+
+    >>> promql.differences("exp(1)")
+    [Difference(is_rejected=True, start=0, end=3, message='Prometheus 3 rejects this: the argument is an instant vector there; \
+write vector(..) around the number')]
+    """
+    found = json.loads(_text(query, _caller.differences(query)))
+    before = range(len(query) + 1) if query.isascii() else _characters(query)
+    return [Difference(code == Status.REFUSED, before[start], before[end], message) for code, start, end, message in found]
 
 
 class Part(NamedTuple):

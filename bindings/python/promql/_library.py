@@ -44,6 +44,7 @@ _SIGNATURES = {
     "promql_collect": [*_QUERY, *_BUFFER],
     "promql_places": [*_QUERY, *_BUFFER],
     "promql_parts": [*_QUERY, *_BUFFER],
+    "promql_differences": [*_QUERY, *_BUFFER],
     "promql_tokens": [*_QUERY, *_BUFFER],
     "promql_check": [*_QUERY, *_BUFFER],
     "promql_explain": [*_QUERY, ctypes.c_uint32, *_BUFFER],
@@ -184,6 +185,11 @@ def places(query: str) -> Answer:
 def parts(query: str) -> Answer:
     encoded = _encoded(query)
     return _answer(call("promql_parts", 8 * len(encoded), encoded, len(encoded)))
+
+
+def differences(query: str) -> Answer:
+    encoded = _encoded(query)
+    return _answer(call("promql_differences", 2 * len(encoded), encoded, len(encoded)))
 
 
 def print_tree(form: str, mode: int, level: int, width: int, parentheses: int) -> Answer:

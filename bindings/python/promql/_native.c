@@ -31,6 +31,7 @@ struct library {
     __typeof__(promql_collect) *collect;
     __typeof__(promql_places) *places;
     __typeof__(promql_parts) *parts;
+    __typeof__(promql_differences) *differences;
     __typeof__(promql_tokens) *tokens;
     __typeof__(promql_check) *check;
     __typeof__(promql_explain) *explain;
@@ -44,8 +45,8 @@ struct library {
     __typeof__(promql_set_target) *set_target;
 };
 
-enum call { PRINT, CANONICAL, ENFORCE, RENAME, COLLECT, PLACES, PARTS, TOKENS, CHECK, EXPLAIN, SNIPPET, PRINT_TREE, FORMAT_QUERY,
-            VERSION };
+enum call { PRINT, CANONICAL, ENFORCE, RENAME, COLLECT, PLACES, PARTS, DIFFERENCES, TOKENS, CHECK, EXPLAIN, SNIPPET, PRINT_TREE,
+            FORMAT_QUERY, VERSION };
 
 /* A call with what it is given. `room` is how many bytes of text are likely for each byte of the query. */
 struct request {
@@ -92,6 +93,8 @@ static uint32_t make_call(const struct library *library, const struct request *r
         return library->places(query, length, buffer, size, result);
     case PARTS:
         return library->parts(query, length, buffer, size, result);
+    case DIFFERENCES:
+        return library->differences(query, length, buffer, size, result);
     case TOKENS:
         return library->tokens(query, length, buffer, size, result);
     case CHECK:
@@ -256,6 +259,11 @@ static PyObject *places(PyObject *module, PyObject *query)
 static PyObject *parts(PyObject *module, PyObject *query)
 {
     return answer_about(module, query, (struct request){.call = PARTS, .room = 8});
+}
+
+static PyObject *differences(PyObject *module, PyObject *query)
+{
+    return answer_about(module, query, (struct request){.call = DIFFERENCES, .room = 2});
 }
 
 static PyObject *tokens(PyObject *module, PyObject *text)
@@ -588,6 +596,7 @@ static PyObject *load(PyObject *module, PyObject *path)
         find(handle, "promql_enforce", &found.enforce) || find(handle, "promql_rename", &found.rename) ||
         find(handle, "promql_collect", &found.collect) || find(handle, "promql_places", &found.places) ||
         find(handle, "promql_parts", &found.parts) || find(handle, "promql_tokens", &found.tokens) ||
+        find(handle, "promql_differences", &found.differences) ||
         find(handle, "promql_check", &found.check) || find(handle, "promql_explain", &found.explain) ||
         find(handle, "promql_snippet", &found.snippet) ||
         find(handle, "promql_version", &found.version) || find(handle, "promql_set_limits", &found.set_limits) ||
@@ -610,6 +619,7 @@ static PyMethodDef methods[] = {
     {"canonical_many", canonical_many, METH_O, NULL},
     {"check", check, METH_O, NULL},
     {"collect", collect, METH_O, NULL},
+    {"differences", differences, METH_O, NULL},
     {"enforce", enforce, METH_VARARGS, NULL},
     {"explain", explain, METH_O, NULL},
     {"format", format, METH_VARARGS, NULL},

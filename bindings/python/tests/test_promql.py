@@ -302,6 +302,24 @@ class Texts(unittest.TestCase):
             with self.assertRaises(error):
                 promql.parts(query)
 
+    def test_all_differences(self):
+        """What the target reads otherwise, and then what it rejects, with places in characters."""
+        self.assertEqual(promql.differences("foo"), [])
+        query = "exp(1) + foo{a='é', b='\\xc3\\xa9'} + -0"
+        found = promql.differences(query)
+        self.assertEqual([(it.is_rejected, query[it.start : it.end]) for it in found], [(False, "\\xc3"), (False, "-"), (True, "exp")])
+        self.assertEqual(found[0].message, "Prometheus reads this otherwise: the escape is a byte there, and a character here")
+        for rejected, error in (("1 +", promql.QueryError), ("a" * 32_769, promql.TooLargeError), ("\ud800", UnicodeEncodeError)):
+            with self.assertRaises(error):
+                promql.differences(rejected)
+        promql.set_target("rules")
+        try:
+            self.assertEqual(promql.differences("exp(1) + -0"), [])
+            promql.set_target("prometheus-2.42")
+            self.assertEqual([it.message for it in promql.differences("step()")], ["Prometheus 2.42 rejects this: the function is of a later version"])
+        finally:
+            promql.set_target("prometheus-3")
+
     def tokens_of(self, text):
         """The tokens with their texts, between which there is white space alone."""
         found, at = [], 0

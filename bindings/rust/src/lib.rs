@@ -43,7 +43,7 @@ pub use function::{Function, ValueType, get_function};
 pub use placed::{PlacedExpr, parse_placed};
 pub use print_tree::{NodeError, parse, places, print, print_layout};
 pub use read_form::{FormError, MOST_HEIGHT};
-pub use tokens::{Part, PartKind, Token, TokenKind, parts, tokens};
+pub use tokens::{Difference, Part, PartKind, Token, TokenKind, differences, parts, tokens};
 pub use tree::*;
 pub use visitor::{ExprVisitor, ExprVisitorMut, walk_expr, walk_expr_mut};
 

@@ -90,6 +90,7 @@ extern "C" {
     fn promql_collect(query: *const u8, query_length: usize, buffer: *mut u8, buffer_size: usize, result: *mut Answer) -> u32;
     fn promql_places(query: *const u8, query_length: usize, buffer: *mut u8, buffer_size: usize, result: *mut Answer) -> u32;
     fn promql_parts(query: *const u8, query_length: usize, buffer: *mut u8, buffer_size: usize, result: *mut Answer) -> u32;
+    fn promql_differences(query: *const u8, query_length: usize, buffer: *mut u8, buffer_size: usize, result: *mut Answer) -> u32;
     fn promql_tokens(text: *const u8, text_length: usize, buffer: *mut u8, buffer_size: usize, result: *mut Answer) -> u32;
     fn promql_check(query: *const u8, query_length: usize, buffer: *mut u8, buffer_size: usize, result: *mut Answer) -> u32;
     fn promql_explain(query: *const u8, query_length: usize, as_json: u32, buffer: *mut u8, buffer_size: usize, result: *mut Answer)
@@ -193,6 +194,12 @@ pub fn places(query: &str) -> (String, Answer) {
 pub fn parts(query: &str) -> (String, Answer) {
     call(query.len(), |(buffer, size, answer)| unsafe {
         promql_parts(query.as_ptr(), query.len(), buffer, size, answer);
+    })
+}
+
+pub fn differences(query: &str) -> (String, Answer) {
+    call(query.len(), |(buffer, size, answer)| unsafe {
+        promql_differences(query.as_ptr(), query.len(), buffer, size, answer);
     })
 }
 

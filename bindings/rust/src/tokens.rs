@@ -95,6 +95,41 @@ const PART_KINDS: [(&str, PartKind); 10] = [
     ("mode", PartKind::Mode),
 ];
 
+/// A part of a query that the target reads otherwise, or rejects: its bytes, and why.
+#[derive(Clone, Debug, PartialEq, Eq, Hash)]
+pub struct Difference {
+    /// Whether the target rejects it.
+    pub is_rejected: bool,
+    pub range: Range<usize>,
+    pub message: String,
+}
+
+/// What the target ([`set_target`](crate::set_target)) reads otherwise of a query than these rules do, and then what it rejects of it.
+/// [`check`](crate::check) gives an error for the first of them.
+///
+/// # Errors
+///
+/// Those of [`canonical`](crate::canonical).
+pub fn differences(query: &str) -> Result<Vec<Difference>, Error> {
+    let shown = text_of(library::differences(query))?;
+    Ok(rows(&shown, |value| match value {
+        Value::Array(values) => difference(values),
+        _ => None,
+    }))
+}
+
+/// A difference, as the library writes it: `[24,0,3,"Prometheus 3 rejects this: .."]`.
+fn difference<'a>(mut values: impl Iterator<Item = Value<'a>>) -> Option<Difference> {
+    match (values.next()?, values.next()?, values.next()?, values.next()?) {
+        (Value::Number(code), Value::Number(start), Value::Number(end), Value::String(message)) => Some(Difference {
+            is_rejected: code.parse() == Ok(library::REFUSED),
+            range: start.parse().ok()?..end.parse().ok()?,
+            message: message.to_string(),
+        }),
+        _ => None,
+    }
+}
+
 /// The tokens of a text, accepted as a query or not, in their order. White space alone is between them.
 ///
 /// # Errors

@@ -291,6 +291,19 @@ fn nodes_have_parts() {
 }
 
 #[test]
+fn differences_are_told() {
+    let found = differences("exp(1) + -0").unwrap();
+    let shown: Vec<_> = found.iter().map(|it| (it.is_rejected, it.range.clone(), it.message.as_str())).collect();
+    let wanted = [
+        (false, 9..10, "Prometheus reads this otherwise: the number is negative zero there, and zero here"),
+        (true, 0..3, "Prometheus 3 rejects this: the argument is an instant vector there; write vector(..) around the number"),
+    ];
+    assert_eq!(shown, wanted);
+    assert!(differences("a").unwrap().is_empty());
+    assert!(matches!(differences("1 +"), Err(Error::Rejected(found)) if found.range == (3..3)));
+}
+
+#[test]
 fn any_text_has_tokens() {
     let text = "Sum(a{b=~'é'}[5m:]) AND 1 # c\n; 'd";
     let found: Vec<(TokenKind, &str)> = tokens(text).unwrap().into_iter().map(|it| (it.kind, &text[it.range])).collect();

@@ -1,4 +1,4 @@
--- What a query names, as JSON, has no number, and places, parts and tokens have no float.
+-- What a query names, as JSON, has no number, and places, parts, tokens and findings have no float.
 use Rattle.std.proofs.Common.{◌≡◌, refl, List, [], ◌∷◌, map}
 use Rattle.std.specs.Prelude.{false, Option, Some, None}
 use Rattle.std.proofs.lemmas.Bool.{or_from}
@@ -9,6 +9,8 @@ use Rattle.promql_text.specs.Texts.{Text}
 use Rattle.promql_rewrite.specs.Collecting.{Selection, selected}
 use Rattle.promql_c.specs.CollectedJson.{collected_value, selector_value}
 use Rattle.promql_lines.specs.Batch.{texts}
+use Rattle.promql_c.specs.FindingsText.{row_value}
+use Rattle.promql_report.specs.declared.findings.Finding.{Finding}
 use Rattle.promql_c.specs.PartsText.{part_value, parts_value}
 use Rattle.promql_c.specs.PlacesText.{span_value}
 use Rattle.promql_c.specs.TokensText.{token_value}
@@ -47,3 +49,6 @@ parts_no_float lists = no_numbers parts_value (λ ps. no_numbers part_value (λ 
 
 pub tokens_no_float : (tokens : List Lexeme) → has_float (list (map token_value tokens)) ≡ false
 tokens_no_float tokens = no_numbers token_value (λ x. refl) tokens
+
+pub findings_no_float : (rows : List (Finding × Text)) → has_float (list (map row_value rows)) ≡ false
+findings_no_float rows = no_numbers row_value (λ row. refl) rows

@@ -1,2 +1,3 @@
 pub mod FiniteCollected
 mod MadeTexts
+pub mod FindingRows

@@ -5,6 +5,7 @@ pub mod CallSteps
 pub mod CollectedJson
 pub mod CollectedParts
 pub mod CollectedTexts
+pub mod FindingsText
 pub mod Formats
 pub mod PartsText
 pub mod PlacesText

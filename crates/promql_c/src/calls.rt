@@ -5,12 +5,15 @@ ghost use Rattle.promql_c.specs.declared.calls.TheConstants.{SORTED_MATCHERS};
 ghost use Rattle.promql_c.specs.CallResults.{Shows, ShowsSome};
 ghost use Rattle.promql_c.specs.Calls.{IsEnforceOf, IsExplainOf, IsFormattedOf, IsPrintOf, IsRenameOf, IsSnippetOf, IsTextOf, IsTokensOf, IsTreePrintOf};
 ghost use Rattle.promql_c.specs.CollectedTexts.{IsCollectedText};
+ghost use Rattle.promql_c.specs.FindingsText.{IsFindingsText};
+ghost use Rattle.promql_span.specs.Targets.{for_rules};
 ghost use Rattle.promql_c.specs.Formats.{format_numbered, format_options, mode_numbered, named_numbered};
 ghost use Rattle.promql_c.specs.PartsText.{IsPartsText};
 ghost use Rattle.promql_c.specs.PlacesText.{IsPlacesText};
 
 use crate::call_result::{CallResult, show, show_text};
 use crate::collecting::collect_query;
+use crate::differing::difference_query;
 use crate::enforcing::enforce_query;
 use crate::explaining::explain_query;
 use crate::formatting::format_bytes;
@@ -120,6 +123,15 @@ pub fn tokens(alloc: Global, limits: &Limits, text: &[u8], buffer: &mut [u8]) ->
     ensures { ShowsSome (IsTokensOf limits.now text.now) result buffer.old buffer.new }
 {
     let made = token_texts(alloc, limits, text);
+    show(alloc, made, buffer)
+}
+
+/// Shows the parts of a query that its target reads otherwise than what is printed, and then those that it rejects, as JSON
+/// (docs/guide/bindings.md, "Differences").
+pub fn differences(alloc: Global, limits: &Limits, query: &[u8], buffer: &mut [u8]) -> CallResult
+    ensures { ShowsSome (IsTextOf (λ t. IsFindingsText limits.now query.now) (for_rules limits.now) query.now) result buffer.old buffer.new }
+{
+    let made = difference_query(alloc, limits, query);
     show(alloc, made, buffer)
 }
 

@@ -9,6 +9,7 @@ ghost use Rattle.promql_span.specs.Targets.{for_check, for_rules};
 ghost use Rattle.promql_c.specs.CallLimits.{limits_of};
 ghost use Rattle.promql_c.specs.Calls.{IsEnforceOf, IsExplainOf, IsFormattedOf, IsPrintOf, IsRenameOf, IsSnippetOf, IsTextOf, IsTokensOf, IsTreePrintOf};
 ghost use Rattle.promql_c.specs.CollectedTexts.{IsCollectedText};
+ghost use Rattle.promql_c.specs.FindingsText.{IsFindingsText};
 ghost use Rattle.promql_c.specs.Formats.{format_numbered, format_options, mode_numbered, named_numbered};
 ghost use Rattle.promql_c.specs.PartsText.{IsPartsText};
 ghost use Rattle.promql_c.specs.PlacesText.{IsPlacesText};
@@ -24,6 +25,7 @@ mod call_limits;
 mod call_result;
 mod calls;
 mod collecting;
+mod differing;
 mod enforcing;
 mod explaining;
 mod formatting;
@@ -133,6 +135,20 @@ pub extern "C" fn call_places(
     ensures { ShowsSome (IsTextOf (IsPlacesText query.now) (for_rules (limits_of limits.now)) query.now) shown.new buffer.old buffer.new }
 {
     *shown = calls::places(alloc, &limits.limits().for_rules(), query, buffer);
+}
+
+/// `calls::differences`.
+#[unsafe(no_mangle)]
+pub extern "C" fn call_differences(
+    alloc: Global,
+    limits: &CallLimits,
+    query: &[u8],
+    buffer: &mut [u8],
+    shown: &mut CallResult,
+)
+    ensures { ShowsSome (IsTextOf (λ t. IsFindingsText (for_check (limits_of limits.now)) query.now) (for_rules (for_check (limits_of limits.now))) query.now) shown.new buffer.old buffer.new }
+{
+    *shown = calls::differences(alloc, &limits.limits().for_check(), query, buffer);
 }
 
 /// `calls::parts`.
