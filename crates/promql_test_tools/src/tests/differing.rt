@@ -1,7 +1,8 @@
 //! What Prometheus reads otherwise of a query (docs/reference/programs.md, "Targets").
 
 use super::{Failed, columns, prints};
-use promql_span::{DifferenceKind, Printed, first_difference};
+use promql_span::limits::Limits;
+use promql_span::{Difference, DifferenceKind, Printed, Target};
 use std::alloc::Global;
 
 /// A query, and the kind and the part of its first difference. The answers are those of a Prometheus 2.42, to which the written and the
@@ -19,6 +20,11 @@ topk(-0, foo) => zero: -
 sum(foo, -.0) => zero: -
 foo atan2 -0 => zero: -
 foo and -0 => zero: -
+and -0 => none
+(or) - 0 + (unless) - 0 => none
+foo + atan2 - 0 => none
+foo and and - 0 => none
+foo and and and -0 => zero: -
 1 - 0 => none
 foo{} - 0 => none
 foo[5m] - 0 => none
@@ -111,14 +117,59 @@ timestamp(+foo) => none
 /// A query whose matchers a layout may sort.
 const MATCHERS: &str = r#"-0 + absent(foo{a="b",a!="b"}) + "\xc3""#;
 
-/// The name of the kind of the first difference, and the text of its part.
+/// Queries, and all parts that are read otherwise.
+const ALL: &str = r#"foo => none
+-0 + "\xc3" - 0 => zero: -, byte: \xc3
+"\xc3" + "a\xc3\xa9" + '\303' => byte: \xc3, byte: \xc3, byte: \303
+(-0) + (-0) + "\ufffd" => zero: -, zero: -, replacement: "\ufffd"
+absent(+foo{a="b",a!="c"}) @ 1.0005 => plus: absent, millisecond: @
+timestamp(+foo) + absent(foo{a="b",a!="c"}) => plus: timestamp, label: absent
+-0 + $ + -0 => zero: -"#;
+
+/// What reads a query that is printed so.
+fn limits(target: Target, printed: Printed) -> Limits {
+    Limits {
+        target,
+        printed,
+        ..Limits::default()
+    }
+}
+
+/// The name of the kind of a difference, and the text of its part.
+fn shown_difference(alloc: Global, query: &str, found: Difference) -> Result<String, Failed> {
+    let part = query.get(found.span.start..found.span.end).ok_or(Failed)?;
+    Ok(format!(in alloc; "{}: {part}", name(found.kind))?)
+}
+
+/// The first difference.
 fn shown(alloc: Global, printed: Printed, query: &str) -> Result<String, Failed> {
-    match first_difference(alloc, printed, query)? {
-        Some(found) => {
-            let part = query.get(found.span.start..found.span.end).ok_or(Failed)?;
-            Ok(format!(in alloc; "{}: {part}", name(found.kind))?)
-        }
+    match limits(Target::Prometheus2, printed).difference(alloc, query)? {
+        Some(found) => shown_difference(alloc, query, found),
         None => Ok(String::from_str(alloc, "none")?),
+    }
+}
+
+/// All differences.
+fn shown_all(alloc: Global, target: Target, query: &str) -> Result<String, Failed> {
+    let mut text = String::new(alloc);
+    for found in limits(target, Printed::Tree).differences(alloc, query)? {
+        if !text.is_empty() {
+            text.push_str(", ")?;
+        }
+        text.push_str(shown_difference(alloc, query, found)?.as_str())?;
+    }
+    if text.is_empty() {
+        text.push_str("none")?;
+    }
+    Ok(text)
+}
+
+#[test]
+fn all_differences_are_found(rt: HostRuntime) {
+    for row in ALL.split('\n') {
+        let (query, want) = columns(row);
+        prints(&rt, shown_all(rt.alloc(), Target::Prometheus3, query), want);
+        prints(&rt, shown_all(rt.alloc(), Target::Rules, query), "none");
     }
 }
 

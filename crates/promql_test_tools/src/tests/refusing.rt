@@ -2,7 +2,7 @@
 
 use super::{Failed, columns, prints};
 use promql_span::Target;
-use promql_target::{Refusal, RefusalKind, first_refusal};
+use promql_target::{Refusal, RefusalKind, first_refusal, refusals};
 use std::alloc::Global;
 
 /// A query, and the kind and the token of the first part that Prometheus 2.42 rejects. The answers are those of that server.
@@ -41,6 +41,15 @@ a @ 5 offset 300 => time: 300
 a @ start() offset 300 => time: 300
 a @ 300 => none
 offset offset 300 => time: 300
+and offset 5m => none
+and offset 300 => time: 300
+and offset +5m => offset: +
+a + or offset -5m => none
+a and and offset 5m + 300 => none
+a + on (b) unless offset +5m => offset: +
+a * on (b) group_left or offset 5m => none
+a{or="b"} offset 5m => none
+sum by (and) (or) offset 300 => time: 300
 offset + 300 => none
 a and offset - 300 => none
 a + on (b) offset + 300 => none
@@ -159,14 +168,50 @@ fn name(kind: RefusalKind) -> &'static str {
     }
 }
 
-/// The name of the kind of the first part that is rejected, and that part.
+/// Queries, and all parts that Prometheus 2.42 rejects.
+const ALL: &str = r#"a => none
+step() + a[300] => function: step, time: 300
++a[5m] + +"b" + `�` => plus: +, plus: +, replacement: `�`
+sum by (without, "c") (a{"b"="d" or e="f"}) => without: without, name: "c", name: "b", or: or
+step() + $ + step() => function: step
+ => none"#;
+
+/// The name of the kind of a part that is rejected, and that part.
+fn shown_refusal(alloc: Global, query: &str, refusal: Refusal) -> Result<String, Failed> {
+    let Refusal { kind, span } = refusal;
+    let part = query.get(span.start..span.end).ok_or(Failed)?;
+    Ok(format!(in alloc; "{}: {part}", name(kind))?)
+}
+
+/// The first one.
 fn shown(alloc: Global, target: Target, query: &str) -> Result<String, Failed> {
     match first_refusal(target, query) {
-        Some(Refusal { kind, span }) => {
-            let part = query.get(span.start..span.end).ok_or(Failed)?;
-            Ok(format!(in alloc; "{}: {part}", name(kind))?)
-        }
+        Some(refusal) => shown_refusal(alloc, query, refusal),
         None => Ok(String::from_str(alloc, "none")?),
+    }
+}
+
+/// All of them.
+fn shown_all(alloc: Global, target: Target, query: &str) -> Result<String, Failed> {
+    let mut text = String::new(alloc);
+    for refusal in refusals(alloc, target, query)? {
+        if !text.is_empty() {
+            text.push_str(", ")?;
+        }
+        text.push_str(shown_refusal(alloc, query, refusal)?.as_str())?;
+    }
+    if text.is_empty() {
+        text.push_str("none")?;
+    }
+    Ok(text)
+}
+
+#[test]
+fn all_refusals_are_found(rt: HostRuntime) {
+    for row in ALL.split('\n') {
+        let (query, want) = columns(row);
+        prints(&rt, shown_all(rt.alloc(), Target::Prometheus2, query), want);
+        prints(&rt, shown_all(rt.alloc(), Target::Rules, query), "none");
     }
 }
 
