@@ -175,7 +175,10 @@ library_fingerprint() {
 
 # The checksum of what the extension for Python is made from.
 extension_fingerprint() {
-    (cd "$root" && sha256sum bindings/python/promql/_native.c bindings/c/promql.h) | sha256sum | cut -d' ' -f1
+    (
+        cd "$root" || exit
+        sha256sum bindings/python/promql/_native{,_nodes,_read,_write}.c bindings/python/promql/_native.h bindings/c/promql.h
+    ) | sha256sum | cut -d' ' -f1
 }
 
 # The folder of the headers of Python: PYTHON names another one than python3.

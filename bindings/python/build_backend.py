@@ -66,6 +66,11 @@ def sources() -> Iterator[Path]:
             yield path
 
 
+def c_sources(suffix: str) -> List[Path]:
+    """The sources of the extension with this suffix, in order."""
+    return sorted((HERE / "promql").glob(f"_native*{suffix}"))
+
+
 def compiled_extension() -> Optional[bytes]:
     """The extension as a C compiler of this machine makes it, or None where it does not."""
     headers = sysconfig.get_path("include")
@@ -75,7 +80,7 @@ def compiled_extension() -> Optional[bytes]:
         # (where functions are hidden, headers of Python 3.8 do not show the one that it looks for)
         words = ["-std=c11", "-O2", "-fPIC", "-shared", f"-I{headers}", f"-I{made()}", "-o", str(to)]
         try:
-            ran = subprocess.run([*compiler, *words, str(HERE / "promql" / "_native.c")], stdout=subprocess.PIPE, stderr=subprocess.STDOUT)
+            ran = subprocess.run([*compiler, *words, *map(str, c_sources(".c"))], stdout=subprocess.PIPE, stderr=subprocess.STDOUT)
             said = f"{compiler[0]} ends with {ran.returncode}\n{ran.stdout.decode(errors='replace')[:2000]}"
         except OSError as error:
             said = str(error)
@@ -217,7 +222,7 @@ prepare_metadata_for_build_editable = prepare_metadata_for_build_wheel
 
 def files_of_sources() -> Dict[str, bytes]:
     paths = [HERE / name for name in ("pyproject.toml", Path(__file__).name, "README.md", *LICENSES)]
-    paths += [*sources(), HERE / "promql" / "_native.c"]
+    paths += [*sources(), *c_sources(".c"), *c_sources(".h")]
     files = {str(path.relative_to(HERE)): path.read_bytes() for path in paths}
     for name in [HEADER, *(f"{it}/{file}" for it in processors() for file in (LIBRARY, EXTENSION))]:
         if (made() / name).is_file():

@@ -2,7 +2,7 @@
 
 from __future__ import annotations
 
-from typing import Any, Dict, List, Optional, Sequence, Set, Tuple, Type, TypeVar
+from typing import Any, Dict, List, Optional, Sequence, Tuple, Type, TypeVar
 
 from . import Error
 from ._fields import HIGHEST, LOWEST
@@ -24,7 +24,9 @@ class FormError(Error):
 
 
 class Members:
-    """The members of an object of a form, which is the whole or below another one. Each is read once, and `end` rejects any other."""
+    """The members of an object of a form, which is the whole or below another one. `end` rejects those that were not read."""
+
+    __slots__ = ("_above", "_step", "depth", "_form", "_read")
 
     def __init__(self, form: object, above: Optional[Members] = None, step: str = "$") -> None:
         self._above = above
@@ -34,7 +36,8 @@ class Members:
         if not isinstance(form, dict):
             raise FormError(self.path, "expected an object")
         self._form: Dict[Any, Any] = form
-        self._read: Set[str] = set()
+        # (an object has few members, and a list of them is smaller than a set)
+        self._read: List[str] = []
 
     @property
     def path(self) -> str:
@@ -53,7 +56,8 @@ class Members:
         """The value of a member, which has to be there."""
         if name not in self._form:
             raise self.error(name, "expected such a member")
-        self._read.add(name)
+        if name not in self._read:
+            self._read.append(name)
         return self._form[name]
 
     def error(self, name: str, message: str) -> FormError:

@@ -3,9 +3,7 @@
  *
  * Only the limited API of Python 3.8 is used, so that one file serves all versions. Its functions are called, and not its macros, where
  * these are other code in other versions. */
-#define Py_LIMITED_API 0x03080000
-#define PY_SSIZE_T_CLEAN
-#include <Python.h>
+#include "_native.h"
 
 #include "promql.h"
 
@@ -15,6 +13,9 @@
 /* Bytes of room on the stack; of the first room for a text, beside what is likely for each byte of its query; and the most of that, so that
  * a query that is too large takes little more than itself. */
 enum { SMALL_ROOM = 4096, FIRST_ROOM = 1024, MOST_LIKELY = 16777216 };
+
+/* The most bytes of the JSON text of a tree, where nothing else is said. */
+enum { MAX_TREE = 4194304 };
 
 /* How many queries canonical_many reads at once, of at most so many bytes together. */
 enum { BATCH = 64, BATCH_BYTES = 65536 };
@@ -72,6 +73,13 @@ struct request {
     size_t end;
 };
 
+/* What the module has of its own. The texts of trees that it writes have at most so many bytes: the library reads no longer ones. */
+struct state {
+    struct library library;
+    struct nodes nodes;
+    size_t max_tree;
+};
+
 static uint32_t make_call(const struct library *library, const struct request *request, char *buffer, size_t size,
                           struct promql_result *result)
 {
@@ -116,15 +124,22 @@ static uint32_t make_call(const struct library *library, const struct request *r
 
 /* ---- texts of Python */
 
-/* The library of the module, or NULL with an error where `load` was not called. */
-static const struct library *library_of(PyObject *module)
+/* The state of the module, or NULL with an error where `load` was not called. */
+static const struct state *state_of(PyObject *module)
 {
-    const struct library *library = PyModule_GetState(module);
-    if (library == NULL || library->print == NULL) {
+    const struct state *state = PyModule_GetState(module);
+    if (state == NULL || state->library.print == NULL) {
         PyErr_SetString(PyExc_RuntimeError, "the library is not loaded");
         return NULL;
     }
-    return library;
+    return state;
+}
+
+/* The library of the module, or NULL with an error. */
+static const struct library *library_of(PyObject *module)
+{
+    const struct state *state = state_of(module);
+    return state == NULL ? NULL : &state->library;
 }
 
 /* A new reference to the bytes of a str, or NULL with an error. */
@@ -207,20 +222,27 @@ static void call_with_room(const struct library *library, const struct request *
     Py_END_ALLOW_THREADS
 }
 
-/* Makes the call with a buffer that is large enough, and returns its text or its error. */
+/* Makes the call with a room that is large enough. Returns 0, or -1 with an error. The caller leaves the room in either case. */
+static int call_whole(const struct library *library, const struct request *request, struct room *room, struct promql_result *result)
+{
+    int status;
+    room->start = room->small;
+    result->length = first_room(request);
+    do {
+        status = make_room(room, result->length);
+        if (status == 0)
+            call_with_room(library, request, room, result);
+    } while (status == 0 && result->length > room->size);
+    return status;
+}
+
+/* Makes the call, and returns its text or its error. */
 static PyObject *answer(const struct library *library, const struct request *request)
 {
     struct room room;
-    struct promql_result result = {.length = first_room(request)};
+    struct promql_result result;
     PyObject *made = NULL;
-    int status;
-    room.start = room.small;
-    do {
-        status = make_room(&room, result.length);
-        if (status == 0)
-            call_with_room(library, request, &room, &result);
-    } while (status == 0 && result.length > room.size);
-    if (status == 0)
+    if (call_whole(library, request, &room, &result) == 0)
         made = text_or_failure(room.start, &result);
     leave_room(&room);
     return made;
@@ -396,6 +418,7 @@ static PyObject *set_limits(PyObject *module, PyObject *arguments)
     library->set_limits((size_t)max_len, (size_t)max_pattern_size);
     library->set_max_output((size_t)max_output);
     library->set_max_tree((size_t)max_tree);
+    ((struct state *)PyModule_GetState(module))->max_tree = (size_t)max_tree;
     return Py_BuildValue("");
 }
 
@@ -408,6 +431,111 @@ static PyObject *set_target(PyObject *module, PyObject *number)
     if (target > UINT32_MAX || library->set_target((uint32_t)target) != PROMQL_OK)
         return PyErr_Format(PyExc_ValueError, "no target has the number %lu", target);
     return Py_BuildValue("");
+}
+
+/* ---- nodes */
+
+static PyObject *learn_nodes(PyObject *module, PyObject *arguments)
+{
+    struct state *state = PyModule_GetState(module);
+    PyObject *classes, *forms;
+    if (state == NULL || !PyArg_ParseTuple(arguments, "O!O!", &PyTuple_Type, &classes, &PyDict_Type, &forms))
+        return NULL;
+    return learn(&state->nodes, classes, forms) == 0 ? Py_BuildValue("") : NULL;
+}
+
+/* The nodes that were learned, or NULL with an error. */
+static const struct nodes *nodes_of(PyObject *module)
+{
+    const struct state *state = state_of(module);
+    if (state == NULL)
+        return NULL;
+    if (state->nodes.forms == NULL) {
+        PyErr_SetString(PyExc_RuntimeError, "the nodes are not learned");
+        return NULL;
+    }
+    return &state->nodes;
+}
+
+/* The tree of a text, or, where it is none of a query of this library, the text. */
+static PyObject *tree_or_text(const struct nodes *nodes, const char *text, const struct promql_result *result)
+{
+    PyObject *tree = result->status == PROMQL_OK ? read_form(nodes, text, result->length) : NULL;
+    return tree != NULL || PyErr_Occurred() ? tree : text_or_failure(text, result);
+}
+
+/* The tree of a query; the text of its form where the reader does not know it; or the tuple of an error. */
+static PyObject *read_tree(PyObject *module, PyObject *query)
+{
+    const struct nodes *nodes = nodes_of(module);
+    PyObject *encoded = nodes == NULL ? NULL : encode(query), *made = NULL;
+    struct request request = {.call = PRINT, .mode = PROMQL_JSON, .room = 32};
+    struct promql_result result;
+    struct room room;
+    if (encoded == NULL)
+        return NULL;
+    request.query = PyBytes_AsString(encoded);
+    request.query_length = (size_t)PyBytes_Size(encoded);
+    if (call_whole(library_of(module), &request, &room, &result) == 0)
+        made = tree_or_text(nodes, room.start, &result);
+    leave_room(&room);
+    Py_DecRef(encoded);
+    return made;
+}
+
+/* The tree of the text of a form; None where it is no text that the library writes. */
+static PyObject *read_text_of_form(PyObject *module, PyObject *form)
+{
+    const struct nodes *nodes = nodes_of(module);
+    PyObject *encoded = nodes == NULL ? NULL : encode(form), *made;
+    if (encoded == NULL)
+        return NULL;
+    made = read_form(nodes, PyBytes_AsString(encoded), (size_t)PyBytes_Size(encoded));
+    Py_DecRef(encoded);
+    return made != NULL || PyErr_Occurred() ? made : Py_BuildValue("");
+}
+
+/* The text of a tree's form, or None where it is not written (write_form). */
+static PyObject *form_text(PyObject *module, PyObject *tree)
+{
+    const struct nodes *nodes = nodes_of(module);
+    char room[SMALL_ROOM];
+    struct text text = {.start = room, .size = sizeof room, .room = room};
+    PyObject *made = NULL;
+    if (nodes == NULL)
+        return NULL;
+    if (write_form(nodes, tree, PTRDIFF_MAX, &text) == 0)
+        made = PyUnicode_DecodeUTF8(text.start, (Py_ssize_t)text.length, NULL);
+    else if (!PyErr_Occurred())
+        made = Py_BuildValue("");
+    leave_text(&text);
+    return made;
+}
+
+/* The text of a tree, in parentheses where it needs them, or the tuple of an error; None where its form is not written. */
+static PyObject *print_nodes(PyObject *module, PyObject *arguments)
+{
+    const struct nodes *nodes = nodes_of(module);
+    char room[SMALL_ROOM];
+    struct text text = {.start = room, .size = sizeof room, .room = room};
+    struct request request = {.call = PRINT_TREE, .parentheses = 1, .room = 1};
+    const struct state *state = PyModule_GetState(module);
+    unsigned long long width;
+    PyObject *tree, *made = NULL;
+    if (nodes == NULL || !PyArg_ParseTuple(arguments, "OIIK", &tree, &request.mode, &request.level, &width))
+        return NULL;
+    request.width = (size_t)width;
+    if (state->library.print_tree == NULL)
+        return PyErr_Format(PyExc_AttributeError, "the library has no promql_print_tree");
+    if (write_form(nodes, tree, state->max_tree, &text) == 0) {
+        request.query = text.start;
+        request.query_length = text.length;
+        made = answer(&state->library, &request);
+    } else if (!PyErr_Occurred()) {
+        made = Py_BuildValue("");
+    }
+    leave_text(&text);
+    return made;
 }
 
 /* ---- many queries */
@@ -582,12 +710,13 @@ static int find(void *handle, const char *name, void *function)
 /* Opens the library at a path, which is never closed. */
 static PyObject *load(PyObject *module, PyObject *path)
 {
-    struct library *library = PyModule_GetState(module), found;
+    struct state *state = PyModule_GetState(module);
+    struct library found;
     char *name = PyBytes_AsString(path);
     void *handle;
     if (name == NULL)
         return NULL;
-    if (library == NULL)
+    if (state == NULL)
         return PyErr_Format(PyExc_RuntimeError, "the module is not executed");
     handle = dlopen(name, RTLD_NOW | RTLD_LOCAL);
     if (handle == NULL)
@@ -609,8 +738,28 @@ static PyObject *load(PyObject *module, PyObject *path)
         PyErr_Clear();
         found.print_tree = NULL;
     }
-    *library = found;
+    state->library = found;
+    state->max_tree = MAX_TREE;
     return Py_BuildValue("");
+}
+
+static int traverse(PyObject *module, visitproc visit, void *arg)
+{
+    struct state *state = PyModule_GetState(module);
+    return state == NULL ? 0 : visit_nodes(&state->nodes, visit, arg);
+}
+
+static int clear(PyObject *module)
+{
+    struct state *state = PyModule_GetState(module);
+    if (state != NULL)
+        forget_nodes(&state->nodes);
+    return 0;
+}
+
+static void release(void *module)
+{
+    clear(module);
 }
 
 static PyMethodDef methods[] = {
@@ -622,13 +771,18 @@ static PyMethodDef methods[] = {
     {"differences", differences, METH_O, NULL},
     {"enforce", enforce, METH_VARARGS, NULL},
     {"explain", explain, METH_O, NULL},
+    {"form_text", form_text, METH_O, NULL},
     {"format", format, METH_VARARGS, NULL},
     {"format_query", format_query, METH_VARARGS, NULL},
     {"json", json, METH_O, NULL},
+    {"learn_nodes", learn_nodes, METH_VARARGS, NULL},
     {"parts", parts, METH_O, NULL},
     {"placed_json", placed_json, METH_O, NULL},
     {"places", places, METH_O, NULL},
+    {"print_nodes", print_nodes, METH_VARARGS, NULL},
     {"print_tree", print_tree, METH_VARARGS, NULL},
+    {"read_form", read_text_of_form, METH_O, NULL},
+    {"read_tree", read_tree, METH_O, NULL},
     {"rename", rename_in_query, METH_VARARGS, NULL},
     {"set_limits", set_limits, METH_VARARGS, NULL},
     {"set_target", set_target, METH_O, NULL},
@@ -642,9 +796,12 @@ static struct PyModuleDef definition = {
     PyModuleDef_HEAD_INIT,
     .m_name = "promql._native",
     .m_doc = "The calls of libpromql.so over str.",
-    .m_size = sizeof(struct library),
+    .m_size = sizeof(struct state),
     .m_methods = methods,
     .m_slots = (PyModuleDef_Slot[]){{0, NULL}},
+    .m_traverse = traverse,
+    .m_clear = clear,
+    .m_free = release,
 };
 
 PyMODINIT_FUNC PyInit__native(void)

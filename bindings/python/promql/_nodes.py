@@ -2,7 +2,6 @@
 
 from __future__ import annotations
 
-import dataclasses
 from dataclasses import dataclass
 from decimal import Decimal
 from typing import Any, ClassVar, Dict, Iterator, List, Optional, Sequence, Tuple, Type, TypeVar, Union, cast
@@ -10,6 +9,7 @@ from typing import Any, ClassVar, Dict, Iterator, List, Optional, Sequence, Tupl
 from ._fields import Check, flag, one, text, text_or_none, texts, time_after_at, tuple_of, whole, whole_or_none
 from ._members import FormError, Members
 from ._parts import GROUPS, MATCHERS, Matcher, Matching, Node
+from ._slots import with_slots
 from .forms import Form, RangeMode, StartOrEnd
 from .functions import FUNCTIONS, Function
 
@@ -26,6 +26,10 @@ class Expr(Node):
 
     What it prints was read again by the library, and has this tree. Where there is no such text NodeError is raised.
     """
+
+    __slots__ = ("_place",)
+
+    _place: Tuple[int, int]
 
     # The `type` of its JSON form, and its fields that have the expressions below it, in the order of a walk.
     TYPE: ClassVar[str]
@@ -75,20 +79,18 @@ class Expr(Node):
 
     def _own_values(self) -> Tuple[object, ...]:
         """What its fields have; of those with expressions, how many."""
-        names = (field.name for field in dataclasses.fields(cast(Any, self)))
-        values = ((name, getattr(self, name)) for name in names)
+        values = ((name, getattr(self, name)) for name in self.field_names())
         return tuple(_count(value) if name in self.CHILDREN else value for name, value in values)
 
     @property
     def place(self) -> Optional[Tuple[int, int]]:
         """The part of the query that it was read from, `query[start:end]`. None where `parse` was not asked for places, and of an expression
         that was made or changed since. Two expressions are equal wherever they are from."""
-        found: Optional[Tuple[int, int]] = self.__dict__.get("_place")
-        return found
+        return getattr(self, "_place", None)
 
     def set_place(self, place: Tuple[int, int]) -> None:
         """Says where it is from. For `parse`."""
-        self.__dict__["_place"] = place
+        object.__setattr__(self, "_place", place)
 
     def walk(self) -> Iterator[Expr]:
         """This expression and all below it: each before those below it, and these in the order of `children`."""
@@ -129,6 +131,7 @@ _EXPR = one(Expr, "an expression")
 _EXPR_OR_NONE = one(Expr, "an expression", or_none=True)
 
 
+@with_slots
 @dataclass(frozen=True, repr=False, eq=False)
 class Aggregation(Expr):
     """An aggregation: `op` is `sum`, `topk` and so on. `grouping` has the labels after `by`, or after `without` where that is true.
@@ -153,6 +156,7 @@ class Aggregation(Expr):
         return cls(members.text("op"), grouping=members.texts("grouping"), without=members.flag("without"), **children)
 
 
+@with_slots
 @dataclass(frozen=True, repr=False, eq=False)
 class Unary(Expr):
     """A minus before an expression."""
@@ -173,6 +177,7 @@ class Unary(Expr):
         return cls(**children)
 
 
+@with_slots
 @dataclass(frozen=True, repr=False, eq=False)
 class Binary(Expr):
     """A binary expression: `op` is `+`, `==`, `and` and so on, and `return_bool` says whether the word `bool` is there."""
@@ -203,6 +208,7 @@ class Binary(Expr):
         return cls(op=members.text("op"), return_bool=members.flag("bool"), matching=matching, **children)
 
 
+@with_slots
 @dataclass(frozen=True, repr=False, eq=False)
 class Paren(Expr):
     """An expression in parentheses."""
@@ -215,6 +221,7 @@ class Paren(Expr):
     expr: Expr
 
 
+@with_slots
 @dataclass(frozen=True, repr=False, eq=False)
 class Subquery(Expr):
     """A subquery: its range, its step and its offset are milliseconds. `at` is the time after `@`: milliseconds since the epoch, `start`
@@ -240,6 +247,7 @@ class Subquery(Expr):
         return cls(range=members.whole("range"), step=step, offset=members.whole("offset"), at=_read_at(members), **children)
 
 
+@with_slots
 @dataclass(frozen=True, repr=False, eq=False)
 class Number(Expr):
     """A number. It has at most 38 digits, and they are exact, so its value is a text, as it prints: `0.5`, `-Inf`, `NaN`."""
@@ -278,6 +286,7 @@ class Number(Expr):
         return cls(members.text("val"))
 
 
+@with_slots
 @dataclass(frozen=True, repr=False, eq=False)
 class String(Expr):
     """A string: its text without the quotes."""
@@ -296,6 +305,7 @@ class String(Expr):
         return cls(members.text("val"))
 
 
+@with_slots
 @dataclass(frozen=True, repr=False, eq=False)
 class Selector(Expr):
     """A selector: its name before the braces or None, and its matchers. `or_matchers` are the groups between `or`, and `matchers` those
@@ -329,6 +339,7 @@ class Selector(Expr):
         return cls(**_read_selected(members))
 
 
+@with_slots
 @dataclass(frozen=True, repr=False, eq=False)
 class RangeSelector(Expr):
     """A selector with a range of milliseconds, as in `foo[5m]`. `mode` is `smoothed`, `anchored` or None; all else is as in Selector."""
@@ -359,6 +370,7 @@ class RangeSelector(Expr):
         return cls(range=members.whole("range"), mode=mode, **_read_selected(members))
 
 
+@with_slots
 @dataclass(frozen=True, repr=False, eq=False)
 class Call(Expr):
     """A call of the function of this name."""

@@ -9,6 +9,7 @@ from typing import Any, ClassVar, Dict, Literal, Optional, Tuple, TypeVar, Union
 from ._fields import Check, any_of, check_fields, flag, one, text, text_or_none, texts, tuple_of
 from ._members import Members
 from ._shown import shown
+from ._slots import with_slots
 from .forms import MatchOp
 
 AnyNode = TypeVar("AnyNode", bound="Node")
@@ -17,11 +18,26 @@ AnyNode = TypeVar("AnyNode", bound="Node")
 class Node:
     """What has fields: an expression, or a part of one. A field of another type is a TypeError."""
 
+    __slots__ = ("__weakref__",)
+
     # What each field may have.
     CHECKS: ClassVar[Dict[str, Check]] = {}
 
     def __post_init__(self) -> None:
         check_fields(self, self.CHECKS)
+
+    @classmethod
+    def field_names(cls) -> Tuple[str, ...]:
+        return tuple(field.name for field in dataclasses.fields(cast(Any, cls)))
+
+    def __getstate__(self) -> Dict[str, Any]:
+        """For `pickle` and `copy`."""
+        names = (*self.field_names(), "_place")
+        return {**getattr(self, "__dict__", {}), **{name: getattr(self, name) for name in names if hasattr(self, name)}}
+
+    def __setstate__(self, state: Dict[str, Any]) -> None:
+        for name, value in state.items():
+            object.__setattr__(self, name, value)
 
     def replace(self: AnyNode, **fields: Any) -> AnyNode:
         """The same with other values in these fields."""
@@ -32,6 +48,7 @@ class Node:
         return shown(self)
 
 
+@with_slots
 @dataclass(frozen=True, repr=False)
 class Matcher(Node):
     """A matcher: a label, an operator, `=`, `!=`, `=~` or `!~`, and a value, which is a pattern after `=~` and `!~`."""
@@ -58,6 +75,7 @@ class Matcher(Node):
         return found
 
 
+@with_slots
 @dataclass(frozen=True, repr=False)
 class ManyToOne(Node):
     """`group_left`, with its labels."""
@@ -67,6 +85,7 @@ class ManyToOne(Node):
     labels: Tuple[str, ...] = ()
 
 
+@with_slots
 @dataclass(frozen=True, repr=False)
 class OneToMany(Node):
     """`group_right`, with its labels."""
@@ -84,6 +103,7 @@ MATCHERS = tuple_of(one(Matcher, "Matcher"), "Matcher")
 GROUPS = tuple_of(MATCHERS, "tuples of Matcher")
 
 
+@with_slots
 @dataclass(frozen=True, repr=False)
 class Matching(Node):
     """How the sides of a binary expression match: by the labels after `on`, or by all but those after `ignoring`.

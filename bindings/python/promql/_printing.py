@@ -10,6 +10,7 @@ import promql
 from ._answers import Answer, Mode
 from ._calls import calls
 from ._members import FormError, Members
+from ._node_calls import node_calls
 from ._node_faults import first_without_text, node_at, path_of, places_in
 from ._nodes import KINDS, Aggregation, Binary, Call, Expr, Selector
 from ._parts import Matcher, Matching
@@ -19,6 +20,7 @@ from .forms import Form
 _TOO_DEEP = "nested too deeply"
 # The most nodes above one another that are read.
 _MOST_HEIGHT = 100_000
+_node_calls = node_calls()
 
 
 class NodeError(promql.Error):
@@ -59,6 +61,13 @@ def form_of(tree: Expr) -> Form:
                 form[name] = [forms.pop() for _ in value]
         forms.append(form)
     return cast(Form, forms.pop())
+
+
+def tree_of_query(query: str) -> Expr:
+    if _node_calls is None:
+        return tree_of(promql.parse(query))
+    answer = _node_calls.read_tree(query)
+    return answer if isinstance(answer, Expr) else tree_of(json.loads(promql._text(query, answer)))
 
 
 def tree_of(form: object) -> Expr:
@@ -134,6 +143,9 @@ def _printed(tree: Expr, mode: Mode, level: int, width: int) -> str:
 
 
 def _answer(tree: Expr, mode: Mode, level: int, width: int) -> Answer:
+    answer = None if _node_calls is None else _node_calls.print_nodes(tree, mode, level, width)
+    if answer is not None:
+        return answer
     try:
         form = json.dumps(form_of(tree), ensure_ascii=False, separators=(",", ":"))
     except RecursionError as error:

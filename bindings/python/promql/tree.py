@@ -22,7 +22,7 @@ import promql
 from ._members import FormError
 from ._nodes import Aggregation, At, Binary, Call, Expr, Number, Paren, RangeSelector, Selector, String, Subquery, Unary
 from ._parts import Cardinality, ManyToOne, Matcher, Matching, OneToMany
-from ._printing import NodeError, tree_of
+from ._printing import NodeError, tree_of, tree_of_query
 
 __all__ = [
     "Aggregation",
@@ -60,7 +60,7 @@ def parse(query: str, *, places: bool = False) -> Expr:
     >>> [query[slice(*node.place)] for node in parse(query, places=True).walk() if node.place]
     ['rate(foo[5m]) > 1', 'rate(foo[5m])', 'foo[5m]', '1']
     """
-    expr = tree_of(promql.parse(query))
+    expr = tree_of_query(query)
     if places:
         for node, place in zip(expr.walk(), promql.places(query)):
             node.set_place(place)
