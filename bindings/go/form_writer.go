@@ -3,7 +3,7 @@ package promql
 import (
 	"encoding/json"
 	"strconv"
-	"strings"
+	"sync"
 	"unicode/utf8"
 )
 
@@ -39,277 +39,435 @@ func isMissing(expr Expr) bool {
 	return true
 }
 
-// formOf returns the JSON form of a tree. The error is a *NodeError: where an expression is missing or below itself, a text is not UTF-8, or
-// a matching has labels of a grouping that it has not.
+// formOf returns the JSON form of a tree, as the library would write it. The error is a *NodeError: where an expression is missing or below
+// itself, a text is not UTF-8, or a matching has labels of a grouping that it has not.
 func formOf(expr Expr) ([]byte, error) {
-	writer := formWriter{above: map[Expr]struct{}{}}
-	writer.node(&path{}, expr)
-	if writer.err != nil {
-		return nil, writer.err
-	}
-	return writer.out, nil
+	writer := formWriter{out: make([]byte, 0, firstSize)}
+	return writer.form(expr)
 }
 
-// formWriter writes a form, and keeps the first fault. Once there is one, what it writes means nothing.
+// form returns the form of a tree in the writer's buffer.
+func (w *formWriter) form(expr Expr) ([]byte, error) {
+	w.expr("", expr)
+	if w.err != nil {
+		return nil, w.err
+	}
+	return w.out, nil
+}
+
+var formWriters = sync.Pool{New: func() any { return new(formWriter) }}
+
+// withForm calls a function with the form of a tree, which is not to be used after it. The error is that of formOf, or else its own.
+func withForm(expr Expr, f func(form []byte) (string, error)) (string, error) {
+	writer := formWriters.Get().(*formWriter)
+	form, err := writer.form(expr)
+	text := ""
+	if err == nil {
+		text, err = f(form)
+	}
+	if cap(writer.out) <= mostPooled {
+		*writer = formWriter{out: writer.out[:0], above: emptied(writer.above)}
+		formWriters.Put(writer)
+	}
+	return text, err
+}
+
+// formWriter writes a form, and keeps the first fault. Once there is one, what it writes means nothing. The members of each object come in the
+// order of their bytes, without a space.
 type formWriter struct {
 	out []byte
 	err *NodeError
-	// The expressions above the one that is written.
-	above map[Expr]struct{}
+	// The expressions above the one that is written, each in the one before it, and that one; and where there are many, a set of them.
+	above []step
+	isIn  map[Expr]struct{}
 }
 
-func (w *formWriter) fail(place *path, message string, node Expr, cause error) {
-	if w.err == nil {
-		w.err = &NodeError{place.String(), message, node, cause}
+// step is an expression, and the member of the one above that it is: the item of this number, if that is a list, or else the number is below 0.
+type step struct {
+	node   Expr
+	member string
+	number int
+}
+
+// mostCompared is up to how many expressions above another one are compared with it one by one.
+const mostCompared = 32
+
+// fail keeps a fault in the expression that is written: in this member of it, if it is not empty.
+func (w *formWriter) fail(member, message string, node Expr, cause error) {
+	if w.err != nil {
+		return
 	}
+	place := &path{}
+	for _, it := range w.above[1:] {
+		if it.number < 0 {
+			place = place.of(it.member)
+		} else {
+			place = place.ofItem(it.member, it.number)
+		}
+	}
+	if member != "" {
+		place = place.of(member)
+	}
+	w.err = &NodeError{place.String(), message, node, cause}
 }
 
 func (w *formWriter) raw(text string) {
 	w.out = append(w.out, text...)
 }
 
-func (w *formWriter) node(place *path, expr Expr) {
+// expr writes the expression that is a member.
+func (w *formWriter) expr(member string, expr Expr) {
+	w.item(member, -1, expr)
+}
+
+// item writes an expression that is an item of this number.
+func (w *formWriter) item(member string, number int, expr Expr) {
 	if w.err != nil {
 		return
 	}
-	if isMissing(expr) {
-		w.fail(place, missing, nil, ErrMissingExpr)
-		return
+	isThere := !isMissing(expr)
+	isBelowItself := isThere && w.isAbove(expr)
+	w.above = append(w.above, step{expr, member, number})
+	switch {
+	case !isThere:
+		w.fail("", missing, nil, ErrMissingExpr)
+	case isBelowItself:
+		w.fail("", belowSelf, expr, ErrBelowItself)
+	default:
+		w.members(expr)
+		delete(w.isIn, expr)
 	}
-	if _, isAbove := w.above[expr]; isAbove {
-		w.fail(place, belowSelf, expr, ErrBelowItself)
-		return
-	}
-	w.above[expr] = struct{}{}
-	w.members(place, expr)
-	delete(w.above, expr)
+	w.above = w.above[:len(w.above)-1]
 }
 
-// part writes the parts of one expression.
-type part struct {
-	*formWriter
-	place *path
-	node  Expr
+// isAbove tells whether an expression is above the place where it is to be written.
+func (w *formWriter) isAbove(expr Expr) bool {
+	if len(w.above) < mostCompared {
+		for _, it := range w.above {
+			if it.node == expr {
+				return true
+			}
+		}
+		return false
+	}
+	if w.isIn == nil {
+		w.isIn = map[Expr]struct{}{}
+	}
+	if len(w.above) == mostCompared {
+		for _, it := range w.above {
+			w.isIn[it.node] = struct{}{}
+		}
+	}
+	_, isAbove := w.isIn[expr]
+	w.isIn[expr] = struct{}{}
+	return isAbove
 }
 
-func (w *formWriter) members(place *path, expr Expr) {
-	p := part{w, place, expr}
+func (w *formWriter) members(expr Expr) {
 	switch node := expr.(type) {
 	case *AggregateExpr:
-		p.raw(`{"type":"aggregation","param":`)
-		p.exprOrNull("param", node.Param)
-		p.expr(`,"expr":`, "expr", node.Expr)
-		p.text(`,"op":`, node.Op)
-		p.texts(`,"grouping":`, node.Grouping)
-		p.raw(`,"without":` + strconv.FormatBool(node.Without))
+		w.aggregation(node)
 	case *BinaryExpr:
-		p.expr(`{"type":"binaryExpr","lhs":`, "lhs", node.LHS)
-		p.expr(`,"rhs":`, "rhs", node.RHS)
-		p.text(`,"op":`, node.Op)
-		p.raw(`,"bool":` + strconv.FormatBool(node.ReturnBool))
-		p.matching(node.VectorMatching)
+		w.binary(node)
 	case *Call:
-		p.raw(`{"type":"call","func":`)
-		p.function(node.Func)
-		p.args(node.Args)
+		w.call(node)
 	case *MatrixSelector:
-		p.selection(`{"type":"matrixSelector"`, &node.Selection)
-		p.milliseconds(`,"range":`, node.Range)
+		w.selection(&node.Selection)
+		w.raw(`,"range":`)
+		w.milliseconds(node.Range)
 		if node.RangeMode != "" {
-			p.text(`,"rangeMode":`, string(node.RangeMode))
+			w.text(`,"rangeMode":`, string(node.RangeMode))
 		}
+		w.startOrEnd(&node.Times)
+		w.timestamp(&node.Times)
+		w.raw(`,"type":"matrixSelector"}`)
 	case *NumberLiteral:
-		p.text(`{"type":"numberLiteral","val":`, node.Val)
+		w.text(`{"type":"numberLiteral","val":`, node.Val)
+		w.raw("}")
 	case *ParenExpr:
-		p.expr(`{"type":"parenExpr","expr":`, "expr", node.Expr)
+		w.raw(`{"expr":`)
+		w.expr("expr", node.Expr)
+		w.raw(`,"type":"parenExpr"}`)
 	case *StringLiteral:
-		p.text(`{"type":"stringLiteral","val":`, node.Val)
+		w.text(`{"type":"stringLiteral","val":`, node.Val)
+		w.raw("}")
 	case *SubqueryExpr:
-		p.expr(`{"type":"subquery","expr":`, "expr", node.Expr)
-		p.milliseconds(`,"range":`, node.Range)
-		p.raw(`,"step":`)
-		if node.Step == nil {
-			p.raw("null")
-		} else {
-			p.milliseconds("", *node.Step)
-		}
-		p.times(&node.Times)
+		w.subquery(node)
 	case *UnaryExpr:
-		p.expr(`{"type":"unaryExpr","op":"-","expr":`, "expr", node.Expr)
+		w.raw(`{"expr":`)
+		w.expr("expr", node.Expr)
+		w.raw(`,"op":"-","type":"unaryExpr"}`)
 	case *VectorSelector:
-		p.selection(`{"type":"vectorSelector"`, &node.Selection)
+		w.selection(&node.Selection)
+		w.startOrEnd(&node.Times)
+		w.timestamp(&node.Times)
+		w.raw(`,"type":"vectorSelector"}`)
 	}
-	p.raw("}")
 }
 
-func (p part) expr(before, member string, expr Expr) {
-	p.raw(before)
-	p.formWriter.node(p.place.of(member), expr)
-}
-
-func (p part) exprOrNull(member string, expr Expr) {
-	if expr == nil {
-		p.raw("null")
-		return
+func (w *formWriter) aggregation(node *AggregateExpr) {
+	w.raw(`{"expr":`)
+	w.expr("expr", node.Expr)
+	w.texts(`,"grouping":`, node.Grouping)
+	w.text(`,"op":`, node.Op)
+	w.raw(`,"param":`)
+	if node.Param == nil {
+		w.raw("null")
+	} else {
+		w.expr("param", node.Param)
 	}
-	p.expr("", member, expr)
+	w.raw(`,"type":"aggregation","without":`)
+	w.out = strconv.AppendBool(w.out, node.Without)
+	w.raw("}")
 }
 
-func (p part) args(args []Expr) {
-	p.raw(`,"args":[`)
-	for i, arg := range args {
+func (w *formWriter) binary(node *BinaryExpr) {
+	w.raw(`{"bool":`)
+	w.out = strconv.AppendBool(w.out, node.ReturnBool)
+	w.raw(`,"lhs":`)
+	w.expr("lhs", node.LHS)
+	w.raw(`,"matching":`)
+	w.matching(node.VectorMatching)
+	w.text(`,"op":`, node.Op)
+	w.raw(`,"rhs":`)
+	w.expr("rhs", node.RHS)
+	w.raw(`,"type":"binaryExpr"}`)
+}
+
+func (w *formWriter) call(node *Call) {
+	w.raw(`{"args":[`)
+	for i, arg := range node.Args {
 		if i > 0 {
-			p.raw(",")
+			w.raw(",")
 		}
-		p.formWriter.node(p.place.ofItem("args", i), arg)
+		w.item("args", i, arg)
 	}
-	p.raw("]")
+	w.raw(`],"func":`)
+	w.function(node.Func)
+	w.raw(`,"type":"call"}`)
+}
+
+func (w *formWriter) subquery(node *SubqueryExpr) {
+	w.raw(`{"expr":`)
+	w.expr("expr", node.Expr)
+	w.raw(`,"offset":`)
+	w.out = node.Offset.append(w.out)
+	w.raw(`,"range":`)
+	w.milliseconds(node.Range)
+	w.startOrEnd(&node.Times)
+	w.raw(`,"step":`)
+	if node.Step == nil {
+		w.raw("null")
+	} else {
+		w.milliseconds(*node.Step)
+	}
+	w.timestamp(&node.Times)
+	w.raw(`,"type":"subquery"}`)
 }
 
 // text writes a string, which has to be UTF-8.
-func (p part) text(before, text string) {
-	p.raw(before)
+func (w *formWriter) text(before, text string) {
+	w.raw(before)
 	if !utf8.ValidString(text) {
-		p.fail(p.place, ErrNotUTF8.Error(), p.node, ErrNotUTF8)
+		w.fail("", ErrNotUTF8.Error(), w.node(), ErrNotUTF8)
 		return
 	}
-	p.out = appendString(p.out, text)
+	w.out = appendString(w.out, text)
+}
+
+// node is the expression that is written.
+func (w *formWriter) node() Expr {
+	return w.above[len(w.above)-1].node
 }
 
 // textOrNull writes a string, or null for an empty one.
-func (p part) textOrNull(before, text string) {
+func (w *formWriter) textOrNull(before, text string) {
 	if text == "" {
-		p.raw(before + "null")
+		w.raw(before)
+		w.raw("null")
 		return
 	}
-	p.text(before, text)
+	w.text(before, text)
 }
 
-func (p part) texts(before string, texts []string) {
-	p.raw(before + "[")
+// pointedOrNull writes the string that a pointer leads to, or null for nil.
+func (w *formWriter) pointedOrNull(before string, text *string) {
+	if text == nil {
+		w.raw(before)
+		w.raw("null")
+		return
+	}
+	w.text(before, *text)
+}
+
+func (w *formWriter) texts(before string, texts []string) {
+	w.raw(before)
+	w.raw("[")
 	for i, text := range texts {
 		if i > 0 {
-			p.raw(",")
+			w.raw(",")
 		}
-		p.text("", text)
+		w.text("", text)
 	}
-	p.raw("]")
+	w.raw("]")
 }
 
-func (p part) milliseconds(before string, length Milliseconds) {
-	p.raw(before)
-	p.out = strconv.AppendUint(p.out, uint64(length), 10)
+func (w *formWriter) milliseconds(length Milliseconds) {
+	w.out = strconv.AppendUint(w.out, uint64(length), 10)
 }
 
-func (p part) selection(before string, selection *Selection) {
-	p.textOrNull(before+`,"name":`, string(selection.Name))
-	p.raw(`,"matchers":`)
-	p.matchers(selection.Matchers)
-	if len(selection.OrMatchers) > 0 {
-		p.raw(`,"or_matchers":`)
-		before := "["
-		for _, group := range selection.OrMatchers {
-			p.raw(before)
-			p.matchers(group)
-			before = ","
-		}
-		p.raw("]")
+// selection writes what is before the members `range` and `startOrEnd`.
+func (w *formWriter) selection(selection *Selection) {
+	w.raw(`{"matchers":`)
+	w.matchers(selection.Matchers)
+	w.textOrNull(`,"name":`, string(selection.Name))
+	w.raw(`,"offset":`)
+	w.out = selection.Offset.append(w.out)
+	if len(selection.OrMatchers) == 0 {
+		return
 	}
-	p.times(&selection.Times)
+	before := `,"or_matchers":[`
+	for _, group := range selection.OrMatchers {
+		w.raw(before)
+		w.matchers(group)
+		before = ","
+	}
+	w.raw("]")
 }
 
-func (p part) matchers(matchers []Matcher) {
-	p.raw("[")
-	for i, matcher := range matchers {
+func (w *formWriter) matchers(matchers []Matcher) {
+	w.raw("[")
+	for i := range matchers {
 		if i > 0 {
-			p.raw(",")
+			w.raw(",")
 		}
-		p.text(`{"name":`, matcher.Name)
-		p.text(`,"type":`, string(matcher.Type))
-		p.text(`,"value":`, matcher.Value)
-		p.raw("}")
+		w.text(`{"name":`, matchers[i].Name)
+		w.text(`,"type":`, string(matchers[i].Type))
+		w.text(`,"value":`, matchers[i].Value)
+		w.raw("}")
 	}
-	p.raw("]")
+	w.raw("]")
 }
 
-func (p part) times(times *Times) {
-	p.raw(`,"offset":` + times.Offset.text())
-	p.textOrNull(`,"startOrEnd":`, string(times.StartOrEnd))
-	p.raw(`,"timestamp":`)
+func (w *formWriter) startOrEnd(times *Times) {
+	w.textOrNull(`,"startOrEnd":`, string(times.StartOrEnd))
+}
+
+func (w *formWriter) timestamp(times *Times) {
+	w.raw(`,"timestamp":`)
 	if times.Timestamp == nil {
-		p.raw("null")
+		w.raw("null")
 	} else {
-		p.out = strconv.AppendInt(p.out, *times.Timestamp, 10)
+		w.out = strconv.AppendInt(w.out, *times.Timestamp, 10)
 	}
 }
 
-func (p part) matching(matching *VectorMatching) {
-	p.raw(`,"matching":`)
+func (w *formWriter) matching(matching *VectorMatching) {
 	if matching == nil {
-		p.raw("null")
+		w.raw("null")
 		return
 	}
-	for _, text := range matching.texts() {
-		if !utf8.ValidString(text) {
-			p.fail(p.place, ErrNotUTF8.Error(), p.node, ErrNotUTF8)
+	switch card := matching.Card; card {
+	case CardManyToOne, CardOneToMany:
+		w.text(`{"card":{`, string(card))
+		w.texts(":", matching.Include)
+		w.raw("}")
+	default:
+		if card == "" {
+			card = CardOneToOne
 		}
+		w.text(`{"card":`, string(card))
+		w.noInclude(matching)
 	}
-	form, err := matching.MarshalJSON()
-	if err != nil {
-		p.fail(p.place.of("matching"), err.Error(), p.node, ErrNotATree)
-	}
-	p.out = append(p.out, form...)
+	w.pointedOrNull(`,"fillValues":{"lhs":`, matching.FillValues.LHS)
+	w.pointedOrNull(`,"rhs":`, matching.FillValues.RHS)
+	w.texts(`},"include":[],"labels":`, matching.MatchingLabels)
+	w.raw(`,"on":`)
+	w.out = strconv.AppendBool(w.out, matching.On)
+	w.raw("}")
 }
 
-// texts returns all texts of a matching.
-func (m *VectorMatching) texts() []string {
-	texts := append([]string{string(m.Card)}, m.MatchingLabels...)
-	texts = append(texts, m.Include...)
-	for _, fill := range []*string{m.FillValues.LHS, m.FillValues.RHS} {
-		if fill != nil {
-			texts = append(texts, *fill)
+// noInclude fails where a matching has labels that its cardinality has no place for.
+func (w *formWriter) noInclude(matching *VectorMatching) {
+	for _, label := range matching.Include {
+		if !utf8.ValidString(label) {
+			w.fail("", ErrNotUTF8.Error(), w.node(), ErrNotUTF8)
 		}
 	}
-	return texts
+	if err := matching.checkInclude(); err != nil {
+		w.fail("matching", err.Error(), w.node(), ErrNotATree)
+	}
 }
 
-func (p part) function(function *Function) {
-	if function == nil {
-		p.raw("null")
-		return
+func (w *formWriter) function(function *Function) {
+	switch {
+	case function == nil:
+		w.raw("null")
+	case !function.isUTF8():
+		w.fail("", ErrNotUTF8.Error(), w.node(), ErrNotUTF8)
+	default:
+		w.out = appendFunction(w.out, function)
 	}
-	p.text(`{"name":`, function.Name)
-	types := make([]string, len(function.ArgTypes))
+}
+
+// isUTF8 tells whether all texts of a function are.
+func (f *Function) isUTF8() bool {
+	isUTF8 := utf8.ValidString(f.Name) && utf8.ValidString(string(f.ReturnType))
+	for _, it := range f.ArgTypes {
+		isUTF8 = isUTF8 && utf8.ValidString(string(it))
+	}
+	return isUTF8
+}
+
+// appendFunction appends the form of a function.
+func appendFunction(out []byte, function *Function) []byte {
+	out = append(out, `{"argTypes":[`...)
 	for i, it := range function.ArgTypes {
-		types[i] = string(it)
+		if i > 0 {
+			out = append(out, ',')
+		}
+		out = appendString(out, string(it))
 	}
-	p.texts(`,"argTypes":`, types)
-	p.raw(`,"variadic":` + strconv.Itoa(function.Variadic))
-	p.text(`,"returnType":`, string(function.ReturnType))
-	p.raw(`,"experimental":` + strconv.FormatBool(function.Experimental) + "}")
+	out = strconv.AppendBool(append(out, `],"experimental":`...), function.Experimental)
+	out = appendString(append(out, `,"name":`...), function.Name)
+	out = appendString(append(out, `,"returnType":`...), string(function.ReturnType))
+	out = strconv.AppendInt(append(out, `,"variadic":`...), int64(function.Variadic), 10)
+	return append(out, '}')
 }
 
 // appendString appends a string of JSON.
 func appendString(out []byte, text string) []byte {
 	out = append(out, '"')
-	for text != "" {
-		end := strings.IndexFunc(text, func(it rune) bool { return it == '"' || it == '\\' || it < ' ' })
-		if end < 0 {
-			end = len(text)
+	start := 0
+	for i := 0; i < len(text); i++ {
+		sign := text[i]
+		if sign >= ' ' && sign != '"' && sign != '\\' {
+			continue
 		}
-		out = append(out, text[:end]...)
-		if text = text[end:]; text == "" {
-			break
-		}
-		if sign := text[0]; sign < ' ' {
-			out = append(out, `\u00`...)
-			out = append(out, "0123456789abcdef"[sign>>4], "0123456789abcdef"[sign&15])
-		} else {
-			out = append(out, '\\', sign)
-		}
-		text = text[1:]
+		out = appendEscape(append(out, text[start:i]...), sign)
+		start = i + 1
 	}
-	return append(out, '"')
+	return append(append(out, text[start:]...), '"')
+}
+
+// appendEscape appends the escape of a byte that no string has as it is.
+func appendEscape(out []byte, sign byte) []byte {
+	switch sign {
+	case '\b':
+		sign = 'b'
+	case '\f':
+		sign = 'f'
+	case '\n':
+		sign = 'n'
+	case '\r':
+		sign = 'r'
+	case '\t':
+		sign = 't'
+	}
+	if sign >= ' ' {
+		return append(out, '\\', sign)
+	}
+	return append(out, '\\', 'u', '0', '0', "0123456789abcdef"[sign>>4], "0123456789abcdef"[sign&15])
 }
 
 // MarshalJSON returns the JSON form of the expression; its error is a *NodeError.

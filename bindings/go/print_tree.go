@@ -102,7 +102,10 @@ func PrintTree(form []byte, parentheses bool, options ...Option) (string, error)
 	if parentheses {
 		needed = 1
 	}
-	text, result := call(string(form), func(tree *C.char, length C.size_t, buffer *C.char, size C.size_t, result *C.struct_promql_result) {
+	if cap(form) == 0 {
+		form = bytesOf("")
+	}
+	text, result := callOver(form, len(form), func(tree *C.char, length C.size_t, buffer *C.char, size C.size_t, result *C.struct_promql_result) {
 		C.promql_print_tree(tree, length, mode, C.uint32_t(made.level), C.size_t(made.width), needed, buffer, size, result)
 	})
 	switch result.status {
@@ -120,11 +123,7 @@ func PrintTree(form []byte, parentheses bool, options ...Option) (string, error)
 // Print returns the text of a tree, on one line, or as Format does where there are options; in parentheses where the tree needs them. The
 // library read what it printed again: it has this tree. Where there is no such text the error is a *NodeError.
 func Print(expr Expr, options ...Option) (string, error) {
-	form, err := formOf(expr)
-	if err != nil {
-		return "", err
-	}
-	text, err := PrintTree(form, true, options...)
+	text, err := withForm(expr, func(form []byte) (string, error) { return PrintTree(form, true, options...) })
 	var said explained
 	if !errors.As(err, &said) {
 		return text, err

@@ -20,6 +20,7 @@ import (
 	"errors"
 	"fmt"
 	"runtime"
+	"sync"
 	"unsafe"
 )
 
@@ -229,13 +230,27 @@ func PlacedJSON(query string) ([]byte, error) {
 }
 
 func printForm(query string, mode C.uint32_t) ([]byte, error) {
-	text, err := textOf(query, func(query *C.char, length C.size_t, buffer *C.char, size C.size_t, result *C.struct_promql_result) {
-		C.promql_print(query, length, mode, 0, 0, buffer, size, result)
-	})
+	text, err := formText(query, mode)
 	if err != nil {
 		return nil, err
 	}
 	return []byte(text), nil
+}
+
+// jsonText returns what JSON returns.
+func jsonText(query string) (string, error) {
+	return formText(query, C.PROMQL_JSON)
+}
+
+func formText(query string, mode C.uint32_t) (string, error) {
+	room := formRoomPerByte * len(query)
+	if room > mostRoom {
+		room = mostRoom
+	}
+	text, result := callOver(bytesOf(query), room, func(query *C.char, length C.size_t, buffer *C.char, size C.size_t, result *C.struct_promql_result) {
+		C.promql_print(query, length, mode, 0, 0, buffer, size, result)
+	})
+	return textOrError(query, text, result)
 }
 
 // Enforce returns the query on one line with a matcher in every selector, in each of its or-groups: that of a tenant, say. The matcher is
@@ -327,25 +342,60 @@ func Version() string {
 // function is a call of the library: its query, its buffer and its result.
 type function func(query *C.char, length C.size_t, buffer *C.char, size C.size_t, result *C.struct_promql_result)
 
-// The first buffer has firstSize bytes, and roomPerByte more for each byte of the query: most texts have fewer, so a call is made once.
+// The first buffer has firstSize bytes, and roomPerByte more for each byte of the query, or formRoomPerByte for its form, up to mostRoom: most
+// texts have fewer, so a call is made once.
 const (
-	firstSize   = 1024
-	roomPerByte = 4
+	firstSize       = 1024
+	roomPerByte     = 4
+	formRoomPerByte = 16
+	mostRoom        = 1 << 24
 )
 
 // call makes a call with a buffer that is large enough, and returns the text and the result.
 func call(query string, f function) (string, C.struct_promql_result) {
-	bytes := append(make([]byte, 0, len(query)+1), query...)
+	return callOver(bytesOf(query), roomPerByte*len(query), f)
+}
+
+// bytesOf returns the bytes of a text, of which there is room for one at least.
+func bytesOf(text string) []byte {
+	return append(make([]byte, 0, len(text)+1), text...)
+}
+
+// callOver makes a call over bytes, which have room for one at least, with so much room for its text beside firstSize.
+func callOver(bytes []byte, room int, f function) (string, C.struct_promql_result) {
 	first := (*C.char)(unsafe.Pointer(&bytes[:1][0]))
 	var result C.struct_promql_result
-	buffer := make([]byte, firstSize+roomPerByte*len(query))
+	buffer := bufferOf(firstSize + room)
 	for {
-		f(first, C.size_t(len(bytes)), (*C.char)(unsafe.Pointer(&buffer[0])), C.size_t(len(buffer)), &result)
-		if int(result.length) <= len(buffer) {
+		f(first, C.size_t(len(bytes)), (*C.char)(unsafe.Pointer(&(*buffer)[0])), C.size_t(len(*buffer)), &result)
+		if int(result.length) <= len(*buffer) {
 			runtime.KeepAlive(bytes)
-			return string(buffer[:result.length]), result
+			text := string((*buffer)[:result.length])
+			leaveBuffer(buffer)
+			return text, result
 		}
-		buffer = make([]byte, result.length)
+		leaveBuffer(buffer)
+		buffer = bufferOf(int(result.length))
+	}
+}
+
+// buffers has buffers of calls that ended, of mostPooled bytes at most.
+var buffers sync.Pool
+
+const mostPooled = 1 << 16
+
+// bufferOf returns a buffer of at least so many bytes.
+func bufferOf(size int) *[]byte {
+	if buffer, isThere := buffers.Get().(*[]byte); isThere && len(*buffer) >= size {
+		return buffer
+	}
+	buffer := make([]byte, size)
+	return &buffer
+}
+
+func leaveBuffer(buffer *[]byte) {
+	if len(*buffer) <= mostPooled {
+		buffers.Put(buffer)
 	}
 }
 

@@ -455,15 +455,15 @@ func marshalText(text string) ([]byte, error) {
 
 // MarshalJSON returns a whole number of milliseconds.
 func (o Offset) MarshalJSON() ([]byte, error) {
-	return []byte(o.text()), nil
+	return o.append(nil), nil
 }
 
-func (o Offset) text() string {
-	text := strconv.FormatUint(uint64(o.Milliseconds), 10)
+// append appends the number of milliseconds.
+func (o Offset) append(out []byte) []byte {
 	if o.Negative && o.Milliseconds > 0 {
-		text = "-" + text
+		out = append(out, '-')
 	}
-	return text
+	return strconv.AppendUint(out, uint64(o.Milliseconds), 10)
 }
 
 // MarshalJSON returns the matching's JSON form. Its error is ErrNotATree: Include has labels that Card has no place for.
@@ -476,8 +476,8 @@ func (m *VectorMatching) MarshalJSON() ([]byte, error) {
 		if m.Card == "" {
 			card = CardOneToOne
 		}
-		if len(m.Include) > 0 {
-			return nil, explained{"labels of a grouping without group_left or group_right: " + strings.Join(m.Include, ", "), ErrNotATree}
+		if err := m.checkInclude(); err != nil {
+			return nil, err
 		}
 	}
 	return json.Marshal(struct {
@@ -487,4 +487,12 @@ func (m *VectorMatching) MarshalJSON() ([]byte, error) {
 		Labels     Labels     `json:"labels"`
 		On         bool       `json:"on"`
 	}{card, m.FillValues, nil, m.MatchingLabels, m.On})
+}
+
+// checkInclude returns ErrNotATree where there are labels of a grouping, for a cardinality that has no place for them.
+func (m *VectorMatching) checkInclude() error {
+	if len(m.Include) == 0 {
+		return nil
+	}
+	return explained{"labels of a grouping without group_left or group_right: " + strings.Join(m.Include, ", "), ErrNotATree}
 }

@@ -31,18 +31,31 @@ func (e *FormError) Unwrap() error {
 // Parse returns the tree of a query. Lengths of time are cut off to whole milliseconds, as in the JSON form. The errors are those of JSON:
 // a query that is rejected gives a *QueryError.
 func Parse(query string) (Expr, error) {
-	form, err := JSON(query)
+	form, err := jsonText(query)
 	if err != nil {
 		return nil, err
 	}
-	return FromJSON(form)
+	return fromText(form)
 }
 
 // FromJSON returns the tree of a JSON form, as JSON and json.Marshal give it, and a *FormError where it is none. At most 10,000 arrays and
 // objects within one another are read, and no text that is not valid UTF-8. Types of expressions, names and patterns are not looked at:
 // Print tells where they are wrong.
 func FromJSON(form []byte) (Expr, error) {
-	value, fault := readJSON(string(form))
+	return fromText(string(form))
+}
+
+// fromText does so for a text, of which the texts of the tree are parts.
+func fromText(form string) (Expr, error) {
+	if expr, isWritten := readWrittenForm(form); isWritten {
+		return expr, nil
+	}
+	return readAnyForm(form)
+}
+
+// readAnyForm does so with members in any order, and with spaces.
+func readAnyForm(form string) (Expr, error) {
+	value, fault := readJSON(form)
 	if fault != nil {
 		return nil, fault
 	}
