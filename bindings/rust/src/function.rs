@@ -50,5 +50,6 @@ pub struct Function {
 
 /// The function of this name.
 pub fn get_function(name: &str) -> Option<&'static Function> {
-    TABLE.iter().find(|function| function.name == name)
+    // (the table is in the order of names)
+    TABLE.binary_search_by(|function| function.name.cmp(name)).ok().map(|number| &TABLE[number])
 }

@@ -91,6 +91,13 @@ pub fn read(text: &str) -> Option<Json<'_>> {
     reader.rest.is_empty().then_some(Json { entries: reader.entries })
 }
 
+/// The string that a text begins with, and what is after it.
+pub fn read_string(text: &str) -> Option<(Cow<'_, str>, &str)> {
+    let mut reader = Reader { rest: text, entries: Vec::new(), open: Vec::new() };
+    let string = reader.string()?;
+    Some((string, reader.rest))
+}
+
 /// What is left of a text, the values that were read of it, and the numbers of the arrays and objects that have no end yet.
 struct Reader<'a> {
     rest: &'a str,
@@ -176,7 +183,7 @@ impl<'a> Reader<'a> {
         }
         let mut text = Cow::Borrowed("");
         loop {
-            let end = self.rest.find(|it: char| it == '"' || it == '\\' || it < ' ')?;
+            let end = self.rest.bytes().position(is_escaped)?;
             // (a text without escapes is not copied)
             text += &self.rest[..end];
             self.rest = &self.rest[end..];
@@ -247,21 +254,48 @@ fn is_number(text: &str) -> bool {
     has_whole && fraction.map_or(true, digits) && exponent.map_or(true, digits)
 }
 
+/// Whether a string has no such byte as it is.
+fn is_escaped(byte: u8) -> bool {
+    byte == b'"' || byte == b'\\' || byte < b' '
+}
+
 /// Writes a string with its quotes.
 pub fn write_string(out: &mut String, text: &str) {
+    let mut rest = text;
     out.push('"');
-    for it in text.chars() {
-        match it {
-            '"' => out.push_str("\\\""),
-            '\\' => out.push_str("\\\\"),
-            '\u{8}' => out.push_str("\\b"),
-            '\t' => out.push_str("\\t"),
-            '\n' => out.push_str("\\n"),
-            '\u{c}' => out.push_str("\\f"),
-            '\r' => out.push_str("\\r"),
-            '\0'..='\x1f' => out.push_str(&format!("\\u{:04x}", u32::from(it))),
-            _ => out.push(it),
-        }
+    while let Some(end) = rest.bytes().position(is_escaped) {
+        out.push_str(&rest[..end]);
+        write_escape(out, rest.as_bytes()[end]);
+        rest = &rest[end + 1..];
     }
+    out.push_str(rest);
     out.push('"');
+}
+
+fn write_escape(out: &mut String, byte: u8) {
+    let sign = match byte {
+        b'"' => '"',
+        b'\\' => '\\',
+        8 => 'b',
+        b'\t' => 't',
+        b'\n' => 'n',
+        12 => 'f',
+        b'\r' => 'r',
+        _ => return out.push_str(&format!("\\u{byte:04x}")),
+    };
+    out.extend(['\\', sign]);
+}
+
+/// Writes a whole number.
+pub fn write_whole(out: &mut String, number: u64) {
+    // (2^64 - 1 has 20 digits)
+    let mut digits = [0; 20];
+    let mut start = digits.len();
+    let mut left = number;
+    while left > 0 || start == digits.len() {
+        start -= 1;
+        digits[start] = b'0' + (left % 10) as u8;
+        left /= 10;
+    }
+    out.extend(digits[start..].iter().map(|digit| char::from(*digit)));
 }

@@ -37,11 +37,12 @@ mod tokens;
 mod tree;
 mod visitor;
 mod write_form;
+mod written_form;
 
 pub use child::{Child, Children};
 pub use function::{Function, ValueType, get_function};
 pub use placed::{PlacedExpr, parse_placed};
-pub use print_tree::{NodeError, parse, places, print, print_layout};
+pub use print_tree::{NodeError, NodeFault, parse, places, print, print_layout};
 pub use read_form::{FormError, MOST_HEIGHT};
 pub use tokens::{Difference, Part, PartKind, Token, TokenKind, differences, parts, tokens};
 pub use tree::*;

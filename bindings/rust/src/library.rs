@@ -49,10 +49,11 @@ pub enum Mode {
     PlacedJson = 3,
 }
 
-// The first buffer has FIRST_SIZE bytes, and ROOM_PER_BYTE more for each byte of the query: most texts have fewer, so a call is
-// made once.
+// The first buffer has FIRST_SIZE bytes, and ROOM_PER_BYTE more for each byte of the query, or FORM_ROOM_PER_BYTE for its form: most texts
+// have fewer, so a call is made once.
 const FIRST_SIZE: usize = 1024;
 const ROOM_PER_BYTE: usize = 4;
+const FORM_ROOM_PER_BYTE: usize = 10;
 
 extern "C" {
     fn promql_print(
@@ -137,7 +138,12 @@ type Buffer = (*mut u8, usize, *mut Answer);
 
 /// Makes a call about a query of that length, with a buffer that is large enough, and returns the text and the result.
 fn call(query_len: usize, function: impl Fn(Buffer)) -> (String, Answer) {
-    let mut text = Vec::with_capacity(FIRST_SIZE + ROOM_PER_BYTE * query_len);
+    call_with_room(ROOM_PER_BYTE * query_len, function)
+}
+
+/// Makes a call with a buffer that has so much room at first beside `FIRST_SIZE`.
+fn call_with_room(room: usize, function: impl Fn(Buffer)) -> (String, Answer) {
+    let mut text = Vec::with_capacity(FIRST_SIZE + room);
     loop {
         let mut answer = Answer::default();
         function((text.as_mut_ptr(), text.capacity(), ptr::addr_of_mut!(answer)));
@@ -155,7 +161,8 @@ fn call(query_len: usize, function: impl Fn(Buffer)) -> (String, Answer) {
 // borrowed alone.
 
 pub fn print(query: &str, mode: Mode, level: u16, width: usize) -> (String, Answer) {
-    call(query.len(), |(buffer, size, answer)| unsafe {
+    let room_per_byte = if mode as u32 >= Mode::Json as u32 { FORM_ROOM_PER_BYTE } else { ROOM_PER_BYTE };
+    call_with_room(room_per_byte * query.len(), |(buffer, size, answer)| unsafe {
         promql_print(query.as_ptr(), query.len(), mode as u32, level.into(), width, buffer, size, answer);
     })
 }
@@ -236,7 +243,7 @@ pub fn snippet(query: &str, start: usize, end: usize) -> (String, Answer) {
 
 pub fn print_tree(form: &str, mode: Mode, level: u16, width: usize, parentheses: bool) -> (String, Answer) {
     let (tree, length) = (form.as_ptr(), form.len());
-    call(length, |(buffer, size, answer)| unsafe {
+    call_with_room(length, |(buffer, size, answer)| unsafe {
         promql_print_tree(tree, length, mode as u32, level.into(), width, parentheses.into(), buffer, size, answer);
     })
 }

@@ -8,6 +8,8 @@ use std::fmt;
 use std::ops::Range;
 use std::str::FromStr;
 
+const TOO_DEEP: &str = "nested too deeply";
+
 /// Why a tree has no text.
 #[derive(Clone, Debug, PartialEq, Eq)]
 pub struct NodeError {
@@ -20,7 +22,34 @@ pub struct NodeError {
     pub cause: Box<Error>,
 }
 
+/// What kind of fault keeps a tree from having a text.
+#[derive(Clone, Copy, Debug, PartialEq, Eq, Hash)]
+#[non_exhaustive]
+pub enum NodeFault {
+    /// A call is of no function: the path ends with `.func.name`.
+    UnknownFunction,
+    /// The tree is higher than the library reads.
+    TooDeep,
+    /// Another part is none of a query, as an operator, a number, a pattern or a range of 0.
+    NotATree,
+    /// The text would mean another tree, or be none, as with an argument of a wrong type.
+    Unfaithful,
+    /// The form or the line of the tree is too long, or its patterns are too large.
+    TooLarge,
+}
+
 impl NodeError {
+    /// The kind of the fault.
+    pub fn fault(&self) -> NodeFault {
+        match &*self.cause {
+            Error::Unfaithful(_) => NodeFault::Unfaithful,
+            Error::TooLargeTree(_) => NodeFault::TooLarge,
+            _ if self.message == TOO_DEEP => NodeFault::TooDeep,
+            _ if self.path.ends_with(".func.name") => NodeFault::UnknownFunction,
+            _ => NodeFault::NotATree,
+        }
+    }
+
     /// The expression of the tree at the path, or the last one on the way there.
     pub fn node<'a>(&self, tree: &'a Expr) -> &'a Expr {
         node_at(tree, &self.path)
@@ -107,7 +136,7 @@ fn print_in_mode(tree: &Expr, layout: Option<Layout>) -> Result<String, Error> {
     let (path, message) = match (&cause, said.split_once(": ")) {
         (Error::NotATree(_), Some((path, message))) => (path.to_string(), message.to_string()),
         // (the form is JSON, but deeper than the library reads)
-        (Error::NotATree(_), None) => (String::from("$"), String::from("nested too deeply")),
+        (Error::NotATree(_), None) => (String::from("$"), TOO_DEEP.to_string()),
         (Error::Unfaithful(_), _) => (first_without_text(tree, has_text), said),
         _ => (String::from("$"), said),
     };

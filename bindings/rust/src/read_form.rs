@@ -4,6 +4,7 @@ use crate::json::{self, Value};
 use crate::members::{Fault, Members, Read};
 use crate::read_node::{BelowNode, Kind, Step, kind_of};
 use crate::tree::*;
+use crate::written_form;
 use std::error;
 use std::fmt;
 use std::vec;
@@ -33,10 +34,18 @@ impl Expr {
     ///
     /// `FormError` where the text is no JSON form of a query.
     pub fn from_json(form: &str) -> Result<Expr, FormError> {
-        match json::read(form) {
-            Some(json) => read_tree(json.value()),
-            None => Err(FormError { path: String::from("$"), message: String::from("not JSON") }),
+        if let Some(expr) = written_form::read(form) {
+            return Ok(expr);
         }
+        read_any_form(form)
+    }
+}
+
+/// Reads a form with members in any order, and with spaces.
+fn read_any_form(form: &str) -> Result<Expr, FormError> {
+    match json::read(form) {
+        Some(json) => read_tree(json.value()),
+        None => Err(FormError { path: String::from("$"), message: String::from("not JSON") }),
     }
 }
 

@@ -1,12 +1,15 @@
 //! From a tree to its JSON form.
 
-use crate::json::write_string;
+use crate::json::{write_string, write_whole};
 use crate::tree::*;
+
+/// The bytes that a form has room for at first.
+const FIRST_SIZE: usize = 512;
 
 impl Expr {
     /// The JSON form, without a space and with the members of objects in byte order, as the library writes it.
     pub fn to_json(&self) -> String {
-        let mut out = String::new();
+        let mut out = String::with_capacity(FIRST_SIZE);
         // The expressions that have no end yet, the highest first, with the number of their children that were written.
         let mut open = vec![(self, 0)];
         while let Some((expr, number)) = open.last_mut() {
@@ -53,14 +56,16 @@ fn write_aggregate_part<'a>(out: &mut String, it: &'a AggregateExpr, number: usi
         }
         out.push_str("null");
     }
-    out.push_str(&format!(",\"type\":\"aggregation\",\"without\":{}}}", it.without));
+    write_flag(named(out, ",\"type\":\"aggregation\",\"without\":"), it.without);
+    out.push('}');
     None
 }
 
 fn write_binary_part<'a>(out: &mut String, it: &'a BinaryExpr, number: usize) -> Option<&'a Expr> {
     match number {
         0 => {
-            out.push_str(&format!("{{\"bool\":{},\"lhs\":", it.return_bool));
+            write_flag(named(out, "{\"bool\":"), it.return_bool);
+            out.push_str(",\"lhs\":");
             Some(&it.lhs)
         }
         1 => {
@@ -96,20 +101,26 @@ fn write_call_part<'a>(out: &mut String, it: &'a Call, number: usize) -> Option<
 fn write_end(out: &mut String, expr: &Expr) {
     match expr {
         Expr::MatrixSelector(it) => {
-            let mode = match it.mode {
-                RangeMode::Plain => String::new(),
-                word => format!(",\"rangeMode\":\"{word}\""),
-            };
-            write_selector(out, &it.vs, &format!(",\"range\":{}{mode}", it.range));
+            write_selector(out, &it.vs);
+            write_whole(named(out, ",\"range\":"), it.range);
+            out.push_str(match it.mode {
+                RangeMode::Plain => "",
+                RangeMode::Smoothed => ",\"rangeMode\":\"smoothed\"",
+                RangeMode::Anchored => ",\"rangeMode\":\"anchored\"",
+            });
+            write_start_or_end(out, it.vs.at);
+            write_timestamp(out, it.vs.at);
             out.push_str(",\"type\":\"matrixSelector\"}");
         }
-        Expr::NumberLiteral(it) => write_literal(out, "numberLiteral", &it.val),
+        Expr::NumberLiteral(it) => write_literal(out, "{\"type\":\"numberLiteral\",\"val\":", &it.val),
         Expr::Paren(_) => out.push_str(",\"type\":\"parenExpr\"}"),
-        Expr::StringLiteral(it) => write_literal(out, "stringLiteral", &it.val),
+        Expr::StringLiteral(it) => write_literal(out, "{\"type\":\"stringLiteral\",\"val\":", &it.val),
         Expr::Subquery(it) => write_subquery_end(out, it),
         Expr::Unary(_) => out.push_str(",\"op\":\"-\",\"type\":\"unaryExpr\"}"),
         Expr::VectorSelector(it) => {
-            write_selector(out, it, "");
+            write_selector(out, it);
+            write_start_or_end(out, it.at);
+            write_timestamp(out, it.at);
             out.push_str(",\"type\":\"vectorSelector\"}");
         }
         // (their parts are written by functions of their own)
@@ -123,9 +134,22 @@ fn named<'a>(out: &'a mut String, text: &str) -> &'a mut String {
     out
 }
 
-fn write_literal(out: &mut String, kind: &str, val: &str) {
-    write_string(named(out, &format!("{{\"type\":\"{kind}\",\"val\":")), val);
+fn write_literal(out: &mut String, before: &str, val: &str) {
+    write_string(named(out, before), val);
     out.push('}');
+}
+
+fn write_flag(out: &mut String, flag: bool) {
+    out.push_str(if flag { "true" } else { "false" });
+}
+
+/// Writes a whole number that may be below 0.
+fn write_signed(out: &mut String, number: i128) {
+    match u64::try_from(number.unsigned_abs()) {
+        Ok(size) => write_whole(named(out, if number < 0 { "-" } else { "" }), size),
+        // (no form has such a number, and the library says so)
+        Err(_) => out.push_str(&number.to_string()),
+    }
 }
 
 fn write_or_null<T: ?Sized>(out: &mut String, value: Option<&T>, write: impl Fn(&mut String, &T)) {
@@ -171,42 +195,55 @@ fn write_matching(out: &mut String, it: &VectorMatching) {
     write_text_or_null(named(out, ",\"fillValues\":{\"lhs\":"), &it.fill_values.lhs);
     write_text_or_null(named(out, ",\"rhs\":"), &it.fill_values.rhs);
     write_texts(named(out, "},\"include\":[],\"labels\":"), &it.labels);
-    out.push_str(&format!(",\"on\":{}}}", it.on));
+    write_flag(named(out, ",\"on\":"), it.on);
+    out.push('}');
 }
 
 fn write_subquery_end(out: &mut String, it: &SubqueryExpr) {
-    let (start_or_end, timestamp) = words_of(it.at);
-    out.push_str(&format!(",\"offset\":{},\"range\":{},\"startOrEnd\":{start_or_end}", it.offset, it.range));
-    write_or_null(named(out, ",\"step\":"), it.step.as_ref(), |out, step| out.push_str(&step.to_string()));
-    out.push_str(&format!(",\"timestamp\":{timestamp},\"type\":\"subquery\"}}"));
+    write_signed(named(out, ",\"offset\":"), it.offset);
+    write_whole(named(out, ",\"range\":"), it.range);
+    write_start_or_end(out, it.at);
+    write_or_null(named(out, ",\"step\":"), it.step.as_ref(), |out, step| write_whole(out, *step));
+    write_timestamp(out, it.at);
+    out.push_str(",\"type\":\"subquery\"}");
 }
 
-/// Writes an object with the members of a selector, and with those of its range, but for its type and its end.
-fn write_selector(out: &mut String, it: &VectorSelector, range: &str) {
-    let (start_or_end, timestamp) = words_of(it.at);
+/// Writes the members of a selector that are before its range, or else before the time after `@`.
+fn write_selector(out: &mut String, it: &VectorSelector) {
     write_list(named(out, "{\"matchers\":"), &it.matchers.matchers, write_matcher);
     write_text_or_null(named(out, ",\"name\":"), &it.name);
-    out.push_str(&format!(",\"offset\":{}", it.offset));
+    write_signed(named(out, ",\"offset\":"), it.offset);
     if !it.matchers.or_matchers.is_empty() {
         let write_group = |out: &mut String, group: &Vec<Matcher>| write_list(out, group, write_matcher);
         write_list(named(out, ",\"or_matchers\":"), &it.matchers.or_matchers, write_group);
     }
-    out.push_str(&format!("{range},\"startOrEnd\":{start_or_end},\"timestamp\":{timestamp}"));
 }
 
 fn write_matcher(out: &mut String, it: &Matcher) {
     write_string(named(out, "{\"name\":"), &it.name);
-    write_string(named(out, &format!(",\"type\":\"{}\",\"value\":", it.op)), &it.value);
+    out.push_str(match it.op {
+        MatchOp::Equal => ",\"type\":\"=\",\"value\":",
+        MatchOp::NotEqual => ",\"type\":\"!=\",\"value\":",
+        MatchOp::Re => ",\"type\":\"=~\",\"value\":",
+        MatchOp::NotRe => ",\"type\":\"!~\",\"value\":",
+    });
+    write_string(out, &it.value);
     out.push('}');
 }
 
-/// The values of `startOrEnd` and `timestamp`.
-fn words_of(at: Option<AtModifier>) -> (&'static str, String) {
+fn write_start_or_end(out: &mut String, at: Option<AtModifier>) {
+    out.push_str(match at {
+        None | Some(AtModifier::At(_)) => ",\"startOrEnd\":null",
+        Some(AtModifier::Start) => ",\"startOrEnd\":\"start\"",
+        Some(AtModifier::End) => ",\"startOrEnd\":\"end\"",
+    });
+}
+
+fn write_timestamp(out: &mut String, at: Option<AtModifier>) {
+    out.push_str(",\"timestamp\":");
     match at {
-        None => ("null", String::from("null")),
-        Some(AtModifier::Start) => ("\"start\"", String::from("null")),
-        Some(AtModifier::End) => ("\"end\"", String::from("null")),
-        Some(AtModifier::At(milliseconds)) => ("null", milliseconds.to_string()),
+        Some(AtModifier::At(milliseconds)) => write_signed(out, milliseconds.into()),
+        _ => out.push_str("null"),
     }
 }
 
@@ -215,8 +252,9 @@ fn write_function(out: &mut String, call: &Call) {
     let function = call.function();
     let types = function.map_or(&[][..], |it| it.arg_types);
     write_list(named(out, "{\"argTypes\":"), types, |out, it| write_string(out, it.text()));
-    out.push_str(&format!(",\"experimental\":{}", function.map_or(false, |it| it.experimental)));
+    write_flag(named(out, ",\"experimental\":"), function.map_or(false, |it| it.experimental));
     write_string(named(out, ",\"name\":"), &call.name);
     write_string(named(out, ",\"returnType\":"), function.map_or("vector", |it| it.return_type.text()));
-    out.push_str(&format!(",\"variadic\":{}}}", function.map_or(0, |it| it.variadic)));
+    write_signed(named(out, ",\"variadic\":"), function.map_or(0, |it| it.variadic).into());
+    out.push('}');
 }

@@ -398,3 +398,25 @@ fn long_names_are_read_and_printed() {
     assert_eq!(fault(&tree).node(&tree), &Expr::call(&name, []));
     assert!(matches!(parse(&format!("{name}(a)")), Err(Error::Rejected(rejection)) if rejection.range == (0..200)));
 }
+
+#[test]
+fn faults_have_kinds() {
+    let fault = |expr: Expr| match print(&expr) {
+        Err(Error::Node(error)) => error.fault(),
+        other => panic!("{other:?}"),
+    };
+    let up = || Expr::selector("up");
+    let high = (0..200).fold(up(), |expr, _| ParenExpr { expr: expr.into() }.into());
+    let pattern = |value: &str| VectorSelector { matchers: [Matcher::new(MatchOp::Re, "a", value)].into(), ..VectorSelector::default() };
+    let range = MatrixSelector {
+        vs: VectorSelector { name: Some(String::from("up")), ..VectorSelector::default() },
+        range: 0,
+        mode: RangeMode::Plain,
+    };
+    assert_eq!(fault(Expr::call("nope", [up()])), NodeFault::UnknownFunction);
+    assert_eq!(fault(high), NodeFault::TooDeep);
+    assert_eq!(fault(pattern("(").into()), NodeFault::NotATree);
+    assert_eq!(fault(pattern("b{3000}").into()), NodeFault::TooLarge);
+    assert_eq!(fault(range.into()), NodeFault::Unfaithful);
+    assert_eq!(fault(Expr::call("rate", [up()])), NodeFault::Unfaithful);
+}
