@@ -1,6 +1,7 @@
 //! Reads trees of the text of the JSON form as the library writes it: without a space, the members of each object in byte order. So what a
 //! node is shows in its first members, and no value of JSON is made.
 
+use crate::child::Child;
 use crate::function::{Function, ValueType, get_function};
 use crate::json;
 use crate::read_form::MOST_HEIGHT;
@@ -38,7 +39,7 @@ enum Open {
     },
     Right {
         return_bool: bool,
-        lhs: Expr,
+        lhs: Child,
         matching: Option<VectorMatching>,
         op: String,
     },
@@ -107,11 +108,11 @@ impl<'a> Reader<'a> {
                 self.must(",\"op\":")?;
                 let op = self.text()?;
                 self.must(",\"rhs\":")?;
-                Some(Begun::Open(Open::Right { return_bool, lhs: child, matching, op }))
+                Some(Begun::Open(Open::Right { return_bool, lhs: child.into(), matching, op }))
             }
             Open::Right { return_bool, lhs, matching, op } => {
                 self.must(",\"type\":\"binaryExpr\"}")?;
-                Some(Begun::Whole(BinaryExpr { op, lhs: lhs.into(), rhs: child.into(), return_bool, matching }.into()))
+                Some(Begun::Whole(BinaryExpr { op, lhs, rhs: child.into(), return_bool, matching }.into()))
             }
             Open::Call(mut args) => {
                 args.push(child);
