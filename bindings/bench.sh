@@ -1,6 +1,7 @@
 #!/usr/bin/env bash
 # bindings/bench.sh [--inner] [RUNS]   what a call costs from C, Rust, Go and Python, for the queries of bench/queries, which are
-#                                      checked, and printed on one line: nanoseconds a query, the least of RUNS runs (60); and, where
+#                                      checked, and printed on one line, and of trees: a query is read as a tree, and that is printed.
+#                                      Nanoseconds a query, the least of RUNS runs (60); and, where
 #                                      valgrind is there, instructions a query from C, which no other job disturbs. --inner also
 #                                      measures the same within Rattle, by `bench/run.sh queries`: it needs rt, which first proves
 #                                      the crates. The tables say how much more each figure is than that, or else than from C
@@ -26,7 +27,8 @@ has() {
     return 1
 }
 
-# The programs print 'CALL KIND FIGURE' in four lines, and so does each of these functions.
+# The programs print 'CALL KIND FIGURE' in lines, and so does each of these functions. The calls are `check`, `line`, `tree` and `text`, of
+# which those of C write the JSON text of a tree and print it.
 
 # within_rattle UNIT: the figures of `bench/run.sh queries`. What it calls `parse` is what a check does.
 within_rattle() {
@@ -64,7 +66,9 @@ instructions_from_c() {
             callgrind_annotate --inclusive=yes "$work/profile" | tr -d , |
             awk -v kind="$kind" -v calls="$((20 * $(wc -l <"$work/$kind")))" '
                 /:promql_check / { print "check", kind, int($1 / calls) }
-                /:promql_canonical / { print "line", kind, int($1 / calls) }'
+                /:promql_canonical / { print "line", kind, int($1 / calls) }
+                /:promql_print / { print "tree", kind, int($1 / (calls * 21 / 20)) }
+                /:promql_print_tree / { print "text", kind, int($1 / calls) }'
     done
 }
 
@@ -98,6 +102,26 @@ print_table() {
         }' "$work/$1"
 }
 
+# print_trees UNIT: what trees cost, and how many times a line that is.
+print_trees() {
+    awk -F '\t' -v unit="$1" '
+        !($1 in seen) { seen[$1] = 1; names[++count] = $1 }
+        { figures[$1, $2, $3] = $4 }
+        function cell(name, call, kind,    figure, line) {
+            figure = figures[name, call, kind]
+            line = figures[name, "line", kind]
+            return figure == "" || !line ? figure : sprintf("%d %6.2f x", figure, figure / line)
+        }
+        function row(name, a, b, c, d) { printf "%-24s %18s %18s %18s %18s\n", name, a, b, c, d }
+        END {
+            row(unit " a query", "to a tree, plain", "tree to text, plain", "to a tree, patterns", "tree to text, p.")
+            for (i = 1; i <= count; i++)
+                if ((names[i], "tree", "plain") in figures)
+                    row(names[i], cell(names[i], "tree", "plain"), cell(names[i], "text", "plain"),
+                        cell(names[i], "tree", "patterns"), cell(names[i], "text", "patterns"))
+        }' "$work/$1"
+}
+
 touch "$work/nanoseconds" "$work/instructions"
 if [ -z "$inner" ]; then
     echo "not measured: within Rattle: --inner does it"
@@ -117,6 +141,8 @@ if has python3 Python; then
     measure nanoseconds 'Python, canonical_many' from_python many
     PROMQL_EXTENSION='' measure nanoseconds 'Python, ctypes' from_python
 fi
-print_table nanoseconds
-print_table instructions
+for unit in nanoseconds instructions; do
+    print_table "$unit"
+    print_trees "$unit"
+done
 echo "load of the machine: $(cut -d' ' -f1-3 /proc/loadavg)"

@@ -1,6 +1,7 @@
-/* Nanoseconds a query of promql_check and of promql_canonical, for the queries of a file, one a line, those without patterns and
- * those with patterns apart: bench FILE [RUNS]. bindings/bench.sh runs it beside those of the other languages. */
-#define _POSIX_C_SOURCE 199309L /* clock_gettime */
+/* Nanoseconds a query of promql_check and of promql_canonical, of its JSON text, and of promql_print_tree of that, for the queries of a file,
+ * one a line, those without patterns and those with patterns apart: bench FILE [RUNS]. bindings/bench.sh runs it beside those of the other
+ * languages. */
+#define _POSIX_C_SOURCE 200809L /* clock_gettime, strdup */
 #include "promql.h"
 
 #include <stdio.h>
@@ -16,6 +17,16 @@ struct queries {
     const char *items[MAX_QUERIES];
     size_t count;
 };
+
+static uint32_t write_json(const char *query, size_t query_length, char *buffer, size_t buffer_size, struct promql_result *result)
+{
+    return promql_print(query, query_length, PROMQL_JSON, 0, 0, buffer, buffer_size, result);
+}
+
+static uint32_t print_tree(const char *form, size_t form_length, char *buffer, size_t buffer_size, struct promql_result *result)
+{
+    return promql_print_tree(form, form_length, PROMQL_LINE, 0, 0, 1, buffer, buffer_size, result);
+}
 
 static long long now(void)
 {
@@ -62,6 +73,21 @@ static long long measure(call *make, const struct queries *queries, int runs)
     return queries->count == 0 ? 0 : least / (long long)(TIMES * queries->count);
 }
 
+/* The JSON texts of the queries. */
+static struct queries forms_of(const struct queries *queries)
+{
+    static char buffer[BUFFER_SIZE];
+    struct queries forms = {.count = 0};
+    for (size_t i = 0; i < queries->count; i++) {
+        struct promql_result result;
+        if (write_json(queries->items[i], strlen(queries->items[i]), buffer, sizeof buffer - 1, &result) != PROMQL_OK)
+            abort();
+        buffer[result.length] = 0;
+        add(&forms, strdup(buffer));
+    }
+    return forms;
+}
+
 static char *read_whole(const char *path)
 {
     FILE *file = fopen(path, "rb");
@@ -89,6 +115,9 @@ int main(int argc, char **argv)
     for (int i = 0; i < 2; i++) {
         printf("check %s %lld\n", kinds[i], measure(promql_check, &queries[i], runs));
         printf("line %s %lld\n", kinds[i], measure(promql_canonical, &queries[i], runs));
+        struct queries forms = forms_of(&queries[i]);
+        printf("tree %s %lld\n", kinds[i], measure(write_json, &queries[i], runs));
+        printf("text %s %lld\n", kinds[i], measure(print_tree, &forms, runs));
     }
     free(text);
     return 0;

@@ -2,6 +2,7 @@ package promql
 
 import (
 	"encoding/json"
+	"errors"
 	"fmt"
 	"math"
 	"strconv"
@@ -211,7 +212,28 @@ type Name string
 // Milliseconds is a length of time. MillisecondsOf makes one.
 type Milliseconds uint64
 
-// MillisecondsOf returns a duration in whole milliseconds; one below 0 is 0.
+// ErrDuration says that a duration is no length of time of a tree: it has a part of a millisecond, or is below 0 where that may not be.
+var ErrDuration = errors.New("no length of time of a tree")
+
+// ExactMilliseconds returns a duration in milliseconds. The error is ErrDuration where it is no whole number of them, or below 0.
+func ExactMilliseconds(duration time.Duration) (Milliseconds, error) {
+	if duration < 0 {
+		return 0, explained{"a duration below 0: " + duration.String(), ErrDuration}
+	}
+	offset, err := ExactOffset(duration)
+	return offset.Milliseconds, err
+}
+
+// ExactOffset returns a duration as an offset. The error is ErrDuration where it is no whole number of milliseconds.
+func ExactOffset(duration time.Duration) (Offset, error) {
+	if duration%time.Millisecond != 0 {
+		return Offset{}, explained{"a duration with a part of a millisecond: " + duration.String(), ErrDuration}
+	}
+	return OffsetOf(duration), nil
+}
+
+// MillisecondsOf returns a duration in whole milliseconds, of which a part is cut off; one below 0 is 0. ExactMilliseconds returns an error
+// for these.
 func MillisecondsOf(duration time.Duration) Milliseconds {
 	if duration < 0 {
 		return 0
@@ -225,7 +247,7 @@ type Offset struct {
 	Negative     bool
 }
 
-// OffsetOf returns a duration as an offset in whole milliseconds.
+// OffsetOf returns a duration as an offset in whole milliseconds, of which a part is cut off. ExactOffset returns an error for that.
 func OffsetOf(duration time.Duration) Offset {
 	milliseconds := duration / time.Millisecond
 	if milliseconds < 0 {

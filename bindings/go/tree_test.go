@@ -291,3 +291,23 @@ func TestPrintErrors(t *testing.T) {
 		t.Error(got)
 	}
 }
+
+func TestExactDurations(t *testing.T) {
+	for _, it := range []struct {
+		duration    time.Duration
+		milli, back bool
+	}{
+		{0, true, true}, {time.Millisecond, true, true}, {5 * time.Minute, true, true}, {-time.Second, false, true},
+		{time.Millisecond + 1, false, false}, {1, false, false}, {-1, false, false}, {math.MaxInt64, false, false}, {math.MinInt64, false, false},
+		{math.MaxInt64 / time.Millisecond * time.Millisecond, true, true}, {math.MinInt64 / time.Millisecond * time.Millisecond, false, true},
+	} {
+		length, err := promql.ExactMilliseconds(it.duration)
+		if (err == nil) != it.milli || err != nil && !errors.Is(err, promql.ErrDuration) || err == nil && length != promql.MillisecondsOf(it.duration) {
+			t.Errorf("%s: %d, %v", it.duration, length, err)
+		}
+		offset, err := promql.ExactOffset(it.duration)
+		if (err == nil) != it.back || err != nil && !errors.Is(err, promql.ErrDuration) || err == nil && offset != promql.OffsetOf(it.duration) {
+			t.Errorf("%s: %v, %v", it.duration, offset, err)
+		}
+	}
+}

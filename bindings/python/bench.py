@@ -1,6 +1,6 @@
-"""Nanoseconds a query of `check` and of `canonical`, for the queries of a file, one a line, those without patterns and those with
-patterns apart: bench.py FILE [RUNS], where Python finds the package. bindings/bench.sh runs it beside those of the other languages.
-With `many` after RUNS: of `canonical_many` in place of `canonical`, for all queries in one call, and nothing of `check`.
+"""Nanoseconds a query of `check` and of `canonical`, of `tree.parse`, and of `str` of its tree, for the queries of a file, one a line, those
+without patterns and those with patterns apart: bench.py FILE [RUNS], where Python finds the package. bindings/bench.sh runs it beside those
+of the other languages. With `many` after RUNS: of `canonical_many` in place of `canonical`, for all queries in one call, and of nothing else.
 """
 
 import sys
@@ -8,6 +8,7 @@ import time
 from pathlib import Path
 
 import promql
+from promql import tree
 
 TIMES = 20
 
@@ -43,6 +44,8 @@ def main(path, runs="60", how=""):
             continue
         for name, call in ("check", promql.check), ("line", promql.canonical):
             print(name, kind, measure(call, queries, int(runs)))
+        print("tree", kind, measure(tree.parse, queries, int(runs)))
+        print("text", kind, measure(str, [tree.parse(query) for query in queries], int(runs)))
 
 
 main(*sys.argv[1:])

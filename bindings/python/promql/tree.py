@@ -15,6 +15,7 @@ of time are whole milliseconds. docs/guide/trees.md has examples.
 
 from __future__ import annotations
 
+from datetime import timedelta
 from typing import Callable, List
 
 import promql
@@ -45,14 +46,15 @@ __all__ = [
     "Subquery",
     "Unary",
     "from_json",
+    "milliseconds",
     "parse",
     "transform",
 ]
 
 
 def parse(query: str, *, places: bool = False) -> Expr:
-    """The tree of a query. Raises what `promql.parse` raises: QueryError where the query is rejected, and RecursionError where it is nested
-    more deeply than Python's recursion limit allows.
+    """The tree of a query. Raises what `promql.parse` raises: QueryError where the query is rejected, and, without the extension,
+    RecursionError where it is nested more deeply than Python's recursion limit allows.
 
     Lengths of time are cut off to whole milliseconds, as in the JSON form. With `places` each expression has its `place` in the query:
 
@@ -74,6 +76,19 @@ def from_json(form: object) -> Expr:
     Types of expressions, names and patterns are not looked at: `str` raises NodeError where they are wrong.
     """
     return tree_of(form)
+
+
+def milliseconds(duration: timedelta) -> int:
+    """The milliseconds of a duration, for ranges, steps and offsets. Raises ValueError where it is no whole number of them: a tree has no
+    parts of one.
+
+    >>> milliseconds(timedelta(minutes=5))
+    300000
+    """
+    count, part = divmod(duration, timedelta(milliseconds=1))
+    if part:
+        raise ValueError(f"no whole number of milliseconds: {duration}")
+    return count
 
 
 def transform(expr: Expr, function: Callable[[Expr], Expr]) -> Expr:

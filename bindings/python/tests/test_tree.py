@@ -4,6 +4,7 @@ import dataclasses
 import pickle
 import sys
 import unittest
+from datetime import timedelta
 from decimal import Decimal
 
 import promql
@@ -255,6 +256,13 @@ class Trees(unittest.TestCase):
         ):
             self.assertEqual(Number.of(value), Number(text))
         self.assertEqual(Number("0.1").decimal(), Decimal("0.1"))
+
+    def test_milliseconds(self):
+        for words, count in ({"minutes": 5}, 300_000), ({"milliseconds": -1}, -1), ({"days": 1, "microseconds": -1000}, 86_399_999), ({}, 0):
+            self.assertEqual(tree.milliseconds(timedelta(**words)), count)
+        for wrong in (timedelta(microseconds=1), timedelta(microseconds=-1500), timedelta.max):
+            self.assertRaises(ValueError, tree.milliseconds, wrong)
+        self.assertRaises(TypeError, tree.milliseconds, 5)
 
     def test_functions(self):
         self.assertEqual(tree.parse("rate(a[1m])").function, FUNCTIONS["rate"])

@@ -1,7 +1,7 @@
-//! Nanoseconds a query of `check` and of `canonical`, for the queries of a file, one a line, those without patterns and those with
-//! patterns apart: `bench FILE [RUNS]`. `bindings/bench.sh` runs it beside those of the other languages.
+//! Nanoseconds a query of `check` and of `canonical`, of `parse`, and of `print` of its tree, for the queries of a file, one a line, those
+//! without patterns and those with patterns apart: `bench FILE [RUNS]`. `bindings/bench.sh` runs it beside those of the other languages.
 
-use promql_proved::{Error, canonical, check};
+use promql_proved::{Error, Expr, canonical, check, parse, print};
 use std::time::{Duration, Instant};
 use std::{env, fs};
 
@@ -11,13 +11,13 @@ fn has_pattern(query: &str) -> bool {
     query.contains("=~") || query.contains("!~")
 }
 
-fn pass(call: fn(&str) -> Result<(), Error>, queries: &[&str]) {
+fn pass<T>(call: fn(&T) -> Result<(), Error>, queries: &[T]) {
     for query in queries {
         call(query).expect("the query is accepted");
     }
 }
 
-fn time_of_run(call: fn(&str) -> Result<(), Error>, queries: &[&str]) -> Duration {
+fn time_of_run<T>(call: fn(&T) -> Result<(), Error>, queries: &[T]) -> Duration {
     let start = Instant::now();
     for _ in 0..TIMES {
         pass(call, queries);
@@ -26,7 +26,7 @@ fn time_of_run(call: fn(&str) -> Result<(), Error>, queries: &[&str]) -> Duratio
 }
 
 /// The least nanoseconds a query of all runs.
-fn measure(call: fn(&str) -> Result<(), Error>, queries: &[&str], runs: usize) -> u128 {
+fn measure<T>(call: fn(&T) -> Result<(), Error>, queries: &[T], runs: usize) -> u128 {
     let least = (0..runs).map(|_| time_of_run(call, queries)).min().unwrap_or_default();
     least.as_nanos() / (TIMES * queries.len()).max(1) as u128
 }
@@ -37,7 +37,10 @@ fn main() {
     let runs = words.get(2).map_or(60, |word| word.parse().expect("a number"));
     for (kind, with_patterns) in [("plain", false), ("patterns", true)] {
         let queries: Vec<&str> = text.lines().filter(|line| has_pattern(line) == with_patterns).collect();
-        println!("check {kind} {}", measure(check, &queries, runs));
+        let trees: Vec<Expr> = queries.iter().map(|query| parse(query).expect("the query is accepted")).collect();
+        println!("check {kind} {}", measure(|query| check(query), &queries, runs));
         println!("line {kind} {}", measure(|query| canonical(query).map(drop), &queries, runs));
+        println!("tree {kind} {}", measure(|query| parse(query).map(drop), &queries, runs));
+        println!("text {kind} {}", measure(|tree| print(tree).map(drop), &trees, runs));
     }
 }

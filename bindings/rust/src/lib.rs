@@ -21,6 +21,7 @@
 mod child;
 mod children;
 mod conversions;
+mod durations;
 mod function;
 mod function_table;
 mod json;
@@ -40,6 +41,7 @@ mod write_form;
 mod written_form;
 
 pub use child::{Child, Children};
+pub use durations::{DurationError, milliseconds};
 pub use function::{Function, ValueType, get_function};
 pub use placed::{PlacedExpr, parse_placed};
 pub use print_tree::{NodeError, NodeFault, parse, places, print, print_layout};

@@ -148,3 +148,16 @@ fn trees_are_equal_with_and_without_places() {
     assert_eq!(placed, placed.clone());
     assert!(matches!(parse_placed("1 +"), Err(Error::Rejected(found)) if found.range == (3..3)));
 }
+
+#[test]
+fn durations_have_no_part_of_a_millisecond() {
+    use std::time::Duration;
+    for (duration, count) in [(0, 0), (1_000_000, 1), (300_000_000_000, 300_000)] {
+        assert_eq!(milliseconds(Duration::from_nanos(duration)), Ok(count));
+    }
+    for duration in
+        [Duration::from_nanos(1), Duration::from_micros(1500), Duration::from_nanos(999_999), Duration::MAX, Duration::from_secs(u64::MAX)]
+    {
+        assert_eq!(milliseconds(duration), Err(DurationError(duration)));
+    }
+}

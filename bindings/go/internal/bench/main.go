@@ -1,5 +1,5 @@
-// Bench prints nanoseconds a query of Check and of Canonical, for the queries of a file, one a line, those without patterns and those
-// with patterns apart. bindings/bench.sh runs it beside those of the other languages.
+// Bench prints nanoseconds a query of Check and of Canonical, of Parse, and of Print of its tree, for the queries of a file, one a line, those
+// without patterns and those with patterns apart. bindings/bench.sh runs it beside those of the other languages.
 //
 //	bench FILE [RUNS]
 package main
@@ -32,16 +32,16 @@ func choose(lines []string, withPatterns bool) []string {
 	return chosen
 }
 
-func pass(call func(string) error, queries []string) {
+func pass[T any](call func(T) error, queries []T) {
 	for _, query := range queries {
 		if err := call(query); err != nil {
-			log.Fatalf("%s: %v", query, err)
+			log.Fatalf("%v: %v", query, err)
 		}
 	}
 }
 
 // measure returns the least nanoseconds a query of all runs.
-func measure(call func(string) error, queries []string, runs int) int64 {
+func measure[T any](call func(T) error, queries []T, runs int) int64 {
 	least := time.Duration(1<<63 - 1)
 	for n := 0; n < runs; n++ {
 		start := time.Now()
@@ -60,6 +60,28 @@ func canonical(query string) error {
 	return err
 }
 
+func parse(query string) error {
+	_, err := promql.Parse(query)
+	return err
+}
+
+func print(expr promql.Expr) error {
+	_, err := promql.Print(expr)
+	return err
+}
+
+func treesOf(queries []string) []promql.Expr {
+	trees := make([]promql.Expr, len(queries))
+	for i, query := range queries {
+		expr, err := promql.Parse(query)
+		if err != nil {
+			log.Fatalf("%s: %v", query, err)
+		}
+		trees[i] = expr
+	}
+	return trees
+}
+
 func main() {
 	text, err := os.ReadFile(os.Args[1])
 	if err != nil {
@@ -76,5 +98,7 @@ func main() {
 		queries := choose(lines, kind == "patterns")
 		fmt.Println("check", kind, measure(promql.Check, queries, runs))
 		fmt.Println("line", kind, measure(canonical, queries, runs))
+		fmt.Println("tree", kind, measure(parse, queries, runs))
+		fmt.Println("text", kind, measure(print, treesOf(queries), runs))
 	}
 }
