@@ -165,16 +165,17 @@ build_c() {
         "$cc" -std=c11 "${flags[@]}" -o "$work/test_shared" "${tests[@]}" -L"$made" -lpromql -Wl,-rpath,"$made" &&
         "$cc" -std=c11 "${flags[@]}" -o "$work/test_memory" "$here/c/tests/test_memory.c" "$made/libpromql.a" \
             -Wl,--wrap=malloc,--wrap=realloc,--wrap=pthread_getattr_np &&
+        "$cc" -std=c11 "${flags[@]}" -I"$here/c" -o "$work/test_form" "$here/c/tests/test_form.c" "$made/libpromql.a" &&
         "$cc" -std=c11 "${flags[@]}" -o "$work/bench" "$here/c/bench.c" "$made/libpromql.a" &&
         "$cc" -std=c99 "${flags[@]}" -o "$work/example" "$here/c/example.c" "$made/libpromql.a"
 }
 
-# bench_prints COMMAND..: whether a program of bench.sh prints its four figures.
+# bench_prints COMMAND..: whether a program of bench.sh prints its eight figures.
 bench_prints() {
     local said
     said=$("$@" "$queries" 1)
     printf '%s\n' "$said"
-    [ "$(grep -cE '^(check|line) (plain|patterns) [1-9][0-9]*$' <<<"$said")" = 4 ]
+    [ "$(grep -cE '^(check|line|tree|text) (plain|patterns) [1-9][0-9]*$' <<<"$said")" = 8 ]
 }
 
 example_prints() {
@@ -198,6 +199,7 @@ build_sanitized() {
     "${sanitized[@]}" -o "$work/sanitized_tests" "$here/c/tests/test_promql.c" -pthread "$made/libpromql.a" &&
         "${sanitized[@]}" -o "$work/sanitized_memory" "$here/c/tests/test_memory.c" "$made/libpromql.a" \
             -Wl,--wrap=malloc,--wrap=realloc,--wrap=pthread_getattr_np &&
+        "${sanitized[@]}" -I"$here/c" -o "$work/sanitized_form" "$here/c/tests/test_form.c" "$made/libpromql.a" &&
         "${sanitized[@]}" -o "$work/sanitized_overrun" "$here/c/tests/test_overrun.c" "$made/libpromql.a"
 }
 
@@ -234,10 +236,12 @@ test_c() {
     add 'C, linked to libpromql.a' "$work/test_static"
     add 'C, linked to libpromql.so' "$work/test_shared"
     add 'failing allocations in C' "$work/test_memory"
+    add 'forms that are walked in C' "$work/test_form" "$queries"
     try 'the example for C' example_prints
     try 'the bench for C' bench_prints "$work/bench"
     if has g++ 'the header as C++'; then
         try 'the header as C++' g++ -Wall -Wextra -Wpedantic -Werror -fsyntax-only -x c++ "$dist/promql.h"
+        try 'the header of forms as C++' g++ -Wall -Wextra -Wpedantic -Werror -fsyntax-only -x c++ "$here/c/promql_form.h"
     fi
     if has python3 'rows and broken texts for C'; then test_rows_in_c; fi
     if has_sanitizers 'the tests for C with sanitizers'; then test_sanitized; fi
@@ -277,6 +281,7 @@ test_rows_in_c() {
     add 'broken texts for C' "$work/test_static" random "$work/calls" 10000 1
     has valgrind 'the tests for C under valgrind' || return
     add 'C under valgrind' under_valgrind "$work/test_static"
+    add 'forms that are walked in C under valgrind' under_valgrind "$work/test_form" "$queries"
     add 'failing allocations in C under valgrind' under_valgrind "$work/test_memory"
     add 'broken texts for C under valgrind' under_valgrind "$work/test_static" random "$work/some" 300 2
     try 'some rows for C under valgrind, and again in two threads' under_valgrind "$work/test_static" rows "$work/some" 2
@@ -289,6 +294,7 @@ test_sanitized() {
     try 'an overrun is reported' overrun_is_reported
     add 'C with sanitizers' "$work/sanitized_tests"
     add 'failing allocations in C with sanitizers' "$work/sanitized_memory"
+    add 'forms that are walked in C with sanitizers' "$work/sanitized_form" "$queries"
     [ -f "$work/calls" ] || return
     add 'broken texts for C with sanitizers' "$work/sanitized_tests" random "$work/calls" 10000 3
     try 'rows for C with sanitizers' "$work/sanitized_tests" rows "$work/calls"

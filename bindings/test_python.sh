@@ -80,12 +80,14 @@ test_extension() {
         try 'building the extension for Python with sanitizers' build_sanitized_extension
         write_python "$work/python_sanitized" "env LD_PRELOAD=$("${CC:-cc}" -print-file-name=libasan.so) ASAN_OPTIONS=detect_leaks=0"
         python=$work/python_sanitized PROMQL_EXTENSION=$work/sanitized_extension/_native.abi3.so PROMQL_BROKEN=5000 \
-            add 'the extension for Python with sanitizers' unit_tests "$here/python" 'test_[cp]*.py'
+            add 'the extension for Python with sanitizers' unit_tests "$here/python" 'test_[cpn]*.py'
     fi
     has valgrind 'the extension for Python under valgrind' || return
     write_python "$work/python_valgrind" "valgrind --quiet --undef-value-errors=no --error-exitcode=99"
     python=$work/python_valgrind PROMQL_BROKEN=500 \
         add 'the extension for Python under valgrind' unit_tests "$here/python" test_calls.py -k Same -k Many -k Memory
+    python=$work/python_valgrind PROMQL_CHANGED=50 PROMQL_EXTENSION=$work/extension/_native.abi3.so \
+        add 'nodes of the extension for Python under valgrind' unit_tests "$here/python" test_node_calls.py -k changed -k queries -k no_nodes -k learn
 }
 
 # ---- the schema
