@@ -83,6 +83,12 @@ class Variables:
         self._stand_ins = re.compile("|".join(map(re.escape, found)) or r"(?!)")
         self.text = self.stand_in(original) or ""
 
+    def spelled(self) -> Dict[str, str]:
+        """The texts that stand in the query as it is laid out, each with the variable or the string that it stands for, in the order in which
+        they come first."""
+        places = {found[0]: found.start() for found in reversed(list(self._stand_ins.finditer(self.text)))}
+        return {text: self._spelled[text] for text in sorted(places, key=places.__getitem__)}
+
     def are_told_apart(self) -> bool:
         return len(self._spelled) == len(self._texts)
 
