@@ -284,10 +284,11 @@ static inline size_t promql_form_utf8(long character, char bytes[4])
     return count;
 }
 
-/* Copies a string without its escapes, in UTF-8, as far as it fits. Returns how many bytes it has; a byte of 0 may be among them. */
+/* Copies a string without its escapes, in UTF-8, as far as it fits. Returns how many bytes it has; a byte of 0 may be among them. At any
+ * other event there are none, but for a number its digits. */
 static inline size_t promql_form_text(const struct promql_form *form, char *buffer, size_t size)
 {
-    const char *at = form->value, *end = form->value + form->value_length;
+    const char *at = form->value, *end = at == NULL ? NULL : at + form->value_length;
     size_t length = 0;
     while (at != end) {
         char bytes[4];

@@ -138,6 +138,8 @@ static void test_types(void)
             check(count < 5 && (wanted[count] == NULL ? form.type == NULL : promql_form_is_type(&form, wanted[count])), "the type of an object");
             count++;
         }
+        check((form.event == PROMQL_FORM_TEXT || form.event == PROMQL_FORM_NUMBER) == (form.value != NULL), "what has a value");
+        check(form.value != NULL || promql_form_text(&form, value, sizeof value) == 0, "no value has no bytes");
         if (form.event == PROMQL_FORM_TEXT && promql_form_is(&form, "value"))
             check(promql_form_text(&form, value, sizeof value) == 3 && memcmp(value, "\n\"d", 3) == 0, "the value of a matcher");
         if (form.event == PROMQL_FORM_LIST && promql_form_is(&form, "grouping"))
