@@ -18,6 +18,7 @@ those of a call that enforces, the last END are the matcher.
 """
 
 import json
+import os
 import subprocess
 import sys
 import tempfile
@@ -30,6 +31,8 @@ sys.path.insert(0, str(ROOT / "bin"))
 from checks import print_counts  # noqa: E402
 
 RUN = ROOT / "crates" / "promql"
+# As long as bindings/test.sh gives to a command.
+SECONDS = int(os.environ.get("most", "240"))
 # What the rows are run with: crates/promql/args.
 MAX_LEN = 1_048_576
 MAX_PATTERNS = 32_000
@@ -186,7 +189,7 @@ def run_c(program, threads):
     with tempfile.TemporaryDirectory() as folder:
         path = Path(folder) / "calls"
         write_calls(calls, path)
-        ran = subprocess.run([program, "rows", path, str(threads)], stdout=subprocess.PIPE, timeout=240)
+        ran = subprocess.run([program, "rows", path, str(threads)], stdout=subprocess.PIPE, timeout=SECONDS)
     answers = list(answers_of(ran.stdout))
     failed = compare(calls, answers)
     if ran.returncode or len(answers) != len(calls):

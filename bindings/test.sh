@@ -13,9 +13,9 @@
 #                                these are installed (docs/guide/proxy.md)
 # bindings/test.sh --editor      tries the language server in Neovim, in Emacs, and with the extension for VS Code, in half a minute,
 #                                where nvim, emacs and node are installed (docs/guide/editor.md)
-# bindings/test.sh --arm         runs what dist/ has for ARM under qemu, in ten minutes: the program as bin/test does, and the library from C
-#                                and Go, where qemu-aarch64-static and aarch64-linux-gnu-gcc are installed; and the programs of both
-#                                processors in a root that has nothing else (docs/RELEASE.md, "Processors")
+# bindings/test.sh --arm         runs what dist/ has for ARM under qemu, in ten minutes: the program as bin/test does, and the library from C,
+#                                Go and Rust, where qemu-aarch64-static and aarch64-linux-gnu-gcc are installed; and the programs of
+#                                both processors in a root that has nothing else (docs/RELEASE.md, "Processors")
 set -u
 here=$(cd "$(dirname "$0")" && pwd)
 root=${here%/*}

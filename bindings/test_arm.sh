@@ -4,8 +4,11 @@
 : "${here:?}" "${root:?}" "${dist:?}" "${work:?}"
 arm=$dist/aarch64
 arm_cc=aarch64-linux-gnu-gcc
-# The glibc of Debian's cross compiler, for what is linked to a shared library.
-arm_root=/usr/aarch64-linux-gnu
+# Where qemu finds the glibc for what is linked to a shared library: that of this machine, where Debian has it for ARM beside its own, or that
+# of the cross compiler. A loader of the one with libraries of the other starts no thread.
+arm_root=/
+if ! [ -e /lib/ld-linux-aarch64.so.1 ]; then arm_root=/usr/aarch64-linux-gnu; fi
+rust_target=aarch64-unknown-linux-gnu
 
 # write_for_arm FILE PROGRAM: makes the file a script that runs a program for ARM.
 write_for_arm() {
@@ -120,16 +123,48 @@ test_go_for_arm() {
     most=1800 add 'rows for Go for ARM, and again in four goroutines' python3 "$here/rows.py" c "$work/run_go" 4
 }
 
-# Rust needs its own library for ARM beside the compiler.
+# rust_for_arm: prints the folder of a cargo whose compiler has its own library for ARM, the first one here or Debian's.
+rust_for_arm() {
+    local folder
+    for folder in "$(dirname "$(command -v cargo)")" /usr/bin; do
+        if [ -x "$folder/cargo" ] && [ -d "$("$folder/rustc" --print target-libdir --target $rust_target 2>/dev/null)" ]; then
+            echo "$folder"
+            return
+        fi
+    done
+    return 1
+}
+
+# in_cargo_for_arm SUBCOMMAND ARGUMENT..: cargo of the folder in the variable rust, which builds for ARM, optimized: qemu is slow.
+in_cargo_for_arm() {
+    PATH=$rust:$PATH CARGO_TARGET_AARCH64_UNKNOWN_LINUX_GNU_LINKER=$arm_cc \
+        CARGO_TARGET_AARCH64_UNKNOWN_LINUX_GNU_RUNNER="qemu-aarch64-static -L $arm_root" in_cargo "$1" --release --target $rust_target "${@:2}"
+}
+
+# The tests but for those that bound a time, which qemu says nothing of.
+rust_tests_for_arm() {
+    local said
+    said=$(in_cargo_for_arm test --no-fail-fast -- --skip quickly 2>&1)
+    printf '%s\n' "$said"
+    print_cargo_counts "$said"
+}
+
 test_rust_for_arm() {
-    local target=aarch64-unknown-linux-gnu
+    local rust
     has cargo 'the crate for Rust for ARM' || return
-    if ! [ -d "$(rustc --print target-libdir --target $target)" ]; then
-        echo "not tried: the crate for Rust for ARM: rustc has no library for $target here"
+    if ! rust=$(rust_for_arm); then
+        echo "not tried: the crate for Rust for ARM: rustc has no library for $rust_target here, as Debian has in libstd-rust-dev:arm64"
         return
     fi
-    most=600 add 'Rust for ARM' env CARGO_TARGET_AARCH64_UNKNOWN_LINUX_GNU_LINKER=$arm_cc \
-        CARGO_TARGET_AARCH64_UNKNOWN_LINUX_GNU_RUNNER="qemu-aarch64-static -L $arm_root" bash -c 'cargo_tests "$@"' cargo_tests --target $target
+    export rust
+    most=1800 add "Rust for ARM, by $("$rust/rustc" --version)" rust_tests_for_arm
+    most=900 try 'the examples for Rust for ARM' in_cargo_for_arm build --examples
+    [ -x "$work/target/$rust_target/release/examples/rows" ] || return
+    write_for_arm "$work/run_rust" "$work/target/$rust_target/release/examples/rows"
+    write_for_arm "$work/run_cache_key" "$work/target/$rust_target/release/examples/cache_key"
+    try 'the example for Rust for ARM' prints_for_arm "$work/run_cache_key" '1 + 2' '1+2'
+    has python3 'rows for Rust for ARM' || return
+    most=1800 add 'rows for Rust for ARM, and again in two threads' python3 "$here/rows.py" c "$work/run_rust" 2
 }
 
 # readme_for_arm: installs as README.md says in the root of the variable ARM_ROOT, a Debian for ARM, and runs its commands there.
@@ -176,5 +211,6 @@ test_arm() {
     fi
 }
 
-export arm arm_cc arm_root
+export arm arm_cc arm_root rust_target
 export -f write_for_arm in_empty_root runs_alone readme_for_arm build_c_for_arm prints_for_arm in_go_for_arm go_tests_for_arm
+export -f in_cargo_for_arm rust_tests_for_arm
