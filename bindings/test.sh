@@ -166,6 +166,7 @@ build_c() {
         "$cc" -std=c11 "${flags[@]}" -o "$work/test_memory" "$here/c/tests/test_memory.c" "$made/libpromql.a" \
             -Wl,--wrap=malloc,--wrap=realloc,--wrap=pthread_getattr_np &&
         "$cc" -std=c11 "${flags[@]}" -I"$here/c" -o "$work/test_form" "$here/c/tests/test_form.c" "$made/libpromql.a" &&
+        "$cc" -std=c11 "${flags[@]}" -o "$work/test_loading" "$here/c/tests/test_loading.c" -pthread &&
         "$cc" -std=c11 "${flags[@]}" -o "$work/bench" "$here/c/bench.c" "$made/libpromql.a" &&
         "$cc" -std=c99 "${flags[@]}" -o "$work/example" "$here/c/example.c" "$made/libpromql.a"
 }
@@ -237,6 +238,8 @@ test_c() {
     add 'C, linked to libpromql.so' "$work/test_shared"
     add 'failing allocations in C' "$work/test_memory"
     add 'forms that are walked in C' "$work/test_form" "$queries"
+    add 'C, by dlopen' "$work/test_loading" "$made/libpromql.so"
+    add 'C, by dlopen without a key' "$work/test_loading" "$made/libpromql.so" full
     try 'the example for C' example_prints
     try 'the bench for C' bench_prints "$work/bench"
     if has g++ 'the header as C++'; then
@@ -252,9 +255,12 @@ test_c() {
     try 'the file promql.pc' find_installed
 }
 
+# build_with_musl COMPILER PROCESSOR NAME: builds the tests as NAME, NAME_shared and NAME_loading. The stacks of threads are 2 MiB.
 build_with_musl() {
-    musl-gcc -static -std=c11 -O2 -Wall -Wextra -Wpedantic -Werror -I"$dist" -o "$work/test_musl" "$here/c/tests/test_promql.c" \
-        "$made/libpromql.a" -Wl,-z,stack-size=2097152
+    local -a flags=(-std=c11 -O2 -Wall -Wextra -Wpedantic -Werror -I"$dist" "-Wl,-z,stack-size=2097152")
+    "$1" -static "${flags[@]}" -o "$work/$3" "$here/c/tests/test_promql.c" "$dist/$2/libpromql.a" &&
+        "$1" "${flags[@]}" -o "$work/$3_shared" "$here/c/tests/test_promql.c" -L"$dist/$2" -lpromql -Wl,-rpath,"$dist/$2" &&
+        "$1" "${flags[@]}" -o "$work/$3_loading" "$here/c/tests/test_loading.c"
 }
 
 # with_stack KIB COMMAND..: runs it with a first stack of that size, of which 100 KiB are the environment.
@@ -264,9 +270,12 @@ with_stack() {
 }
 
 test_musl() {
-    try 'building the tests for C with musl' build_with_musl
-    [ -x "$work/test_musl" ] || return
+    try 'building the tests for C with musl' build_with_musl musl-gcc "$(uname -m)" test_musl
+    [ -x "$work/test_musl_loading" ] || return
     add 'C with musl' "$work/test_musl"
+    add 'C with musl, linked to libpromql.so' "$work/test_musl_shared"
+    add 'C with musl, by dlopen' "$work/test_musl_loading" "$made/libpromql.so"
+    add 'C with musl, by dlopen without a key' "$work/test_musl_loading" "$made/libpromql.so" full
     for size in 600 1000 1280; do add "C with musl and $size KiB of stack" with_stack $size "$work/test_musl" stack small; done
     for size in 1500 4096 unlimited; do add "C with musl and $size KiB of stack" with_stack $size "$work/test_musl" stack large; done
     [ -f "$work/calls" ] || return

@@ -69,6 +69,7 @@ build_c_for_arm() {
         "$arm_cc" -std=c11 "${flags[@]}" -o "$work/arm_shared" "${tests[@]}" -L"$arm" -lpromql -Wl,-rpath,"$arm" &&
         "$arm_cc" -std=c11 "${flags[@]}" -static -o "$work/arm_memory" "$here/c/tests/test_memory.c" "$arm/libpromql.a" \
             -Wl,--wrap=malloc,--wrap=realloc,--wrap=pthread_getattr_np &&
+        "$arm_cc" -std=c11 "${flags[@]}" -o "$work/arm_loading" "$here/c/tests/test_loading.c" -pthread &&
         "$arm_cc" -std=c99 "${flags[@]}" -static -o "$work/arm_example" "$here/c/example.c" "$arm/libpromql.a" &&
         "$arm_cc" -std=c11 "${flags[@]}" -static -o "$work/arm_kit" "$here/c/tests/test_kit.c" "$root/bin/kit_heap.c" "$root/bin/kit_process.c" \
             -pthread
@@ -78,16 +79,32 @@ test_c_for_arm() {
     local name
     try 'building the tests for C for ARM' build_c_for_arm
     [ -x "$work/arm_kit" ] || return
-    for name in static shared memory example kit; do write_for_arm "$work/run_$name" "$work/arm_$name"; done
+    for name in static shared memory loading example kit; do write_for_arm "$work/run_$name" "$work/arm_$name"; done
     add 'the heap and the process for ARM' "$work/run_kit" "${kit_arguments[@]}"
     add 'C for ARM, linked to libpromql.a' "$work/run_static"
     add 'C for ARM, linked to libpromql.so' "$work/run_shared"
     add 'failing allocations in C for ARM' "$work/run_memory"
+    add 'C for ARM, by dlopen' "$work/run_loading" "$arm/libpromql.so"
     try 'the example for C for ARM' prints_for_arm "$work/run_example" '1 + 2' '1+2'
     has python3 'rows and broken texts for C for ARM' || return
     most=1800 add 'rows for C for ARM, and again in two threads' python3 "$here/rows.py" c "$work/run_static" 2
     try 'the calls of the rows' python3 "$here/rows.py" write "$work/calls"
     add 'broken texts for C for ARM' "$work/run_static" random "$work/calls" 2000 5
+}
+
+# Debian's musl-dev:arm64 has the compiler, and musl:arm64 the loader.
+test_musl_for_arm() {
+    local name
+    has aarch64-linux-musl-gcc 'C with musl for ARM' || return
+    try 'building the tests for C with musl for ARM' build_with_musl aarch64-linux-musl-gcc aarch64 arm_musl
+    [ -x "$work/arm_musl_loading" ] || return
+    for name in musl musl_shared musl_loading; do write_for_arm "$work/run_$name" "$work/arm_$name"; done
+    add 'C with musl for ARM' "$work/run_musl"
+    add 'C with musl for ARM, linked to libpromql.so' "$work/run_musl_shared"
+    add 'C with musl for ARM, by dlopen' "$work/run_musl_loading" "$arm/libpromql.so"
+    [ -f "$work/calls" ] || return
+    add 'broken texts for C with musl for ARM' "$work/run_musl" random "$work/calls" 2000 6
+    most=1800 try 'rows for C with musl for ARM, and again in two threads' "$work/run_musl" rows "$work/calls" 2
 }
 
 # prints_for_arm COMMAND WANTED WORD..: whether the command prints this of the words.
@@ -202,6 +219,7 @@ test_arm() {
     write_for_arm "$work/promql_arm" "$arm/promql"
     most=1800 add 'the program for ARM, as bin/test does' "$root/bin/test" --program "$work/promql_arm"
     test_c_for_arm
+    test_musl_for_arm
     test_go_for_arm
     test_rust_for_arm
     if [ -n "${ARM_ROOT:-}" ]; then

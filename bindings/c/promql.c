@@ -124,12 +124,38 @@ static uintptr_t growing_start(uintptr_t start)
     return end - size < start ? end - size : start;
 }
 
-/* The lowest byte of this thread's stack and the byte after its last one, once they were asked for. By this model a thread has them
- * from its beginning: else the first call of a thread would allocate them where the library was loaded later, and end the process
- * where there is no memory. */
-static _Thread_local __attribute__((tls_model("initial-exec"))) uintptr_t stack_start, stack_end;
+/* What a thread keeps of its stack, once it has asked: the lowest byte, and the byte after the last one. It is kept by keys of POSIX, and
+ * not by _Thread_local: musl loads no library by dlopen that has its place before a thread begins (the model initial-exec), and by any
+ * other model glibc allocates that place at the first call of a thread, and ends the process where there is no memory. */
+static pthread_key_t stack_start, stack_end;
+static atomic_int has_keys;
 
-static int ask_for_stack(void)
+__attribute__((constructor)) static void make_keys(void)
+{
+    if (pthread_key_create(&stack_start, NULL) != 0)
+        return;
+    if (pthread_key_create(&stack_end, NULL) == 0)
+        has_keys = 1;
+    else
+        pthread_key_delete(stack_start);
+}
+
+/* (the end goes first: whoever finds an end has found the start) */
+__attribute__((destructor)) static void delete_keys(void)
+{
+    if (!has_keys)
+        return;
+    has_keys = 0;
+    pthread_key_delete(stack_end);
+    pthread_key_delete(stack_start);
+}
+
+struct stack {
+    uintptr_t start;
+    uintptr_t end;
+};
+
+static int ask_for_stack(struct stack *stack)
 {
     pthread_attr_t attributes;
     void *start;
@@ -139,10 +165,24 @@ static int ask_for_stack(void)
         return error;
     error = pthread_attr_getstack(&attributes, &start, &size);
     pthread_attr_destroy(&attributes);
-    if (error == 0) {
-        stack_start = growing_start((uintptr_t)start);
-        stack_end = (uintptr_t)start + size;
+    if (error == 0)
+        *stack = (struct stack){growing_start((uintptr_t)start), (uintptr_t)start + size};
+    return error;
+}
+
+/* (a thread that finds no room for what it keeps asks again at its next call) */
+static int stack_of_thread(struct stack *stack)
+{
+    *stack = (struct stack){0, 0};
+    if (has_keys) {
+        stack->start = (uintptr_t)pthread_getspecific(stack_start);
+        stack->end = (uintptr_t)pthread_getspecific(stack_end);
     }
+    if (stack->end != 0)
+        return 0;
+    int error = ask_for_stack(stack);
+    if (error == 0 && has_keys && pthread_setspecific(stack_start, (void *)stack->start) == 0)
+        (void)pthread_setspecific(stack_end, (void *)stack->end);
     return error;
 }
 
@@ -152,9 +192,10 @@ static uint32_t look_at_stack(void)
 {
     char here;
     uintptr_t at = (uintptr_t)&here;
-    if (stack_end == 0 && ask_for_stack() == ENOMEM)
+    struct stack stack;
+    if (stack_of_thread(&stack) == ENOMEM)
         return PROMQL_OUT_OF_MEMORY;
-    return at < stack_start || at >= stack_end || at - stack_start >= PROMQL_STACK ? PROMQL_OK : PROMQL_SMALL_STACK;
+    return at < stack.start || at >= stack.end || at - stack.start >= PROMQL_STACK ? PROMQL_OK : PROMQL_SMALL_STACK;
 }
 #else
 static uint32_t look_at_stack(void)
