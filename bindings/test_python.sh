@@ -111,10 +111,23 @@ install_wheel() {
         "$python" -m pip install --quiet --no-deps --no-index --target "$work/site" "$work"/wheels/promql-*.whl
 }
 
+# imports_all PYTHON: compiles each module of the package that this Python has, and imports it; those of rule files ask for a reader of YAML
+# only when they run.
+imports_all() {
+    "$1" -W error -c 'import compileall, promql; raise SystemExit(not compileall.compile_dir(promql.__path__[0], quiet=1))' &&
+        "$1" - <<'END'
+import importlib, pkgutil, promql
+names = [it.name for it in pkgutil.walk_packages(promql.__path__, "promql.") if not it.name.endswith((".libpromql", "._native"))]
+for name in names:
+    importlib.import_module(name)
+assert len(names) > 60, names
+END
+}
+
 # A Python of this version installs the package from the checkout, without a network and without anything else, and makes its calls.
 installs() {
     local venv=$work/venv_$1 python=$work/venv_$1/bin/python
-    "$2" -m venv "$venv" && "$python" -m pip install --quiet --no-index "$here/python" && "$python" -m pip check &&
+    "$2" -m venv "$venv" && "$python" -m pip install --quiet --no-index "$here/python" && "$python" -m pip check && imports_all "$python" &&
         (cd "$here/python/tests" && env -u PYTHONPATH "$python" -m unittest test_promql test_calls) &&
         "$venv/bin/promql-rules" check "$here/python/tests/files/board.json" && "$python" -m pip uninstall --quiet --yes promql &&
         ! "$python" -c 'import promql' 2>/dev/null
@@ -133,6 +146,6 @@ test_wheel() {
     if [ -d "$work/site" ]; then PROMQL_BROKEN=1000 add_unit_tests "Python, as pip installs it, by $python" "$work/site"; fi
 }
 
-export -f install_wheel installs extension_agrees build_sanitized_extension
+export -f install_wheel installs imports_all extension_agrees build_sanitized_extension
 # What these call of bin/lib.sh.
 export -f extension_tools python_headers why_extension_stale why_other extension_fingerprint is_listed file_sum processor_names compiler_for tools_for
