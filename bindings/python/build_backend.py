@@ -23,7 +23,7 @@ import tempfile
 import time
 import zipfile
 from pathlib import Path
-from typing import Any, Dict, Iterator, List, Mapping, NoReturn, Optional
+from typing import Any, Dict, Iterable, Iterator, List, Mapping, NoReturn, Optional
 
 HERE = Path(__file__).resolve().parent
 LIBRARY, EXTENSION, HEADER = "libpromql.so", "_native.abi3.so", "promql.h"
@@ -103,11 +103,11 @@ def built(name: str) -> Dict[str, bytes]:
     return files
 
 
-def tag(name: str, files: Mapping[str, bytes]) -> str:
-    """The tag of a wheel: any Python 3, since ctypes serves those in which the extension does not load, and glibc from the version on of
-    which these files name a symbol."""
+def tags(name: str, files: Mapping[str, bytes]) -> List[str]:
+    """The tags of a wheel: any Python 3, since ctypes serves those in which the extension does not load, with glibc from the version on of
+    which these files name a symbol, or with musl, which has all that they call and looks at no version."""
     versions = [int(it) for file in files.values() for it in re.findall(rb"\0GLIBC_2\.(\d+)", file)]
-    return f"py3-none-manylinux_2_{max(versions, default=17)}_{name}"
+    return [f"py3-none-{it}_{name}" for it in (f"manylinux_2_{max(versions, default=17)}", "musllinux_1_2")]
 
 
 # ---- what pyproject.toml says
@@ -160,10 +160,10 @@ def name_and_version() -> str:
 # ---- a wheel
 
 
-def info_files(wheel_tag: str) -> Dict[str, bytes]:
+def info_files(wheel_tags: Iterable[str]) -> Dict[str, bytes]:
     """The files of the folder .dist-info of a wheel, but for its RECORD."""
-    wheel = f"Wheel-Version: 1.0\nGenerator: promql\nRoot-Is-Purelib: false\nTag: {wheel_tag}\n"
-    texts = {"METADATA": metadata(), "WHEEL": wheel, "entry_points.txt": entry_points()}
+    lines = ["Wheel-Version: 1.0", "Generator: promql", "Root-Is-Purelib: false", *(f"Tag: {it}" for it in wheel_tags), ""]
+    texts = {"METADATA": metadata(), "WHEEL": "\n".join(lines), "entry_points.txt": entry_points()}
     files = {name: text.encode() for name, text in texts.items()}
     files.update({name: (HERE / name).read_bytes() for name in LICENSES})
     return {f"{name_and_version()}.dist-info/{name}": text for name, text in files.items()}
@@ -174,12 +174,14 @@ def record_line(name: str, text: bytes) -> str:
     return f"{name},sha256={digest},{len(text)}\n"
 
 
-def write_wheel(folder: str, wheel_tag: str, files: Mapping[str, bytes]) -> str:
+def write_wheel(folder: str, wheel_tags: List[str], files: Mapping[str, bytes]) -> str:
     """Writes a wheel of these files into the folder, and returns its name."""
-    whole = {**files, **info_files(wheel_tag)}
+    whole = {**files, **info_files(wheel_tags)}
     record = f"{name_and_version()}.dist-info/RECORD"
     whole[record] = ("".join(record_line(*it) for it in whole.items()) + f"{record},,\n").encode()
-    name = f"{name_and_version()}-{wheel_tag}.whl"
+    # (a name has platforms that have the rest in common side by side)
+    common = wheel_tags[0].rpartition("-")[0]
+    name = f"{name_and_version()}-{common}-{'.'.join(it.rpartition('-')[2] for it in wheel_tags)}.whl"
     # (a time before 1980 has no place in such a file)
     moment = time.gmtime(max(TIME, 315532800))[:6]
     with zipfile.ZipFile(Path(folder, name), "w", zipfile.ZIP_DEFLATED) as wheel:
@@ -196,19 +198,19 @@ def build_wheel(folder: str, config_settings: Settings = None, metadata_director
     files = built(name)
     whole = {str(path.relative_to(HERE)): path.read_bytes() for path in sources()}
     whole.update({f"promql/{it}": text for it, text in files.items()})
-    return write_wheel(folder, tag(name, files), whole)
+    return write_wheel(folder, tags(name, files), whole)
 
 
 def build_editable(folder: str, config_settings: Settings = None, metadata_directory: Optional[str] = None) -> str:
     """The package stays in the checkout, and uses what is in its dist/."""
     name = processor(config_settings)
     library = {LIBRARY: (made() / name / LIBRARY).read_bytes()}
-    return write_wheel(folder, tag(name, library), {"promql_checkout.pth": f"{HERE}\n".encode()})
+    return write_wheel(folder, tags(name, library), {"promql_checkout.pth": f"{HERE}\n".encode()})
 
 
 def prepare_metadata_for_build_wheel(folder: str, config_settings: Settings = None) -> str:
     processor(config_settings)
-    for path, text in info_files("py3-none-any").items():
+    for path, text in info_files(["py3-none-any"]).items():
         Path(folder, path).parent.mkdir(exist_ok=True)
         Path(folder, path).write_bytes(text)
     return f"{name_and_version()}.dist-info"

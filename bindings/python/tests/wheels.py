@@ -23,7 +23,7 @@ BOARD = Path("bindings/python/tests/files/board.json")
 # The processors that the release is for, each with the version of glibc that its library needs.
 GLIBC = {"x86_64": 34, "aarch64": 34}
 PROCESSOR = platform.machine()
-TAG = "py3-none-manylinux_2_%d_%s"
+TAGS = ("py3-none-manylinux_2_%d_%s", "py3-none-musllinux_1_2_%s")
 HOOK = "python -I -m promql.hook"
 BUILT = ("libpromql.so", "_native.abi3.so")
 try:
@@ -95,6 +95,10 @@ class Wheels(unittest.TestCase):
         spec.loader.exec_module(module)
         return module
 
+    def name(self, processor):
+        """The name of a wheel."""
+        return f"promql-{self.version()}-{TAGS[0] % (GLIBC[processor], processor)}.musllinux_1_2_{processor}.whl"
+
     def version(self):
         return re.search(r'^version = "(.*)"$', (self.package / "pyproject.toml").read_text(encoding="utf-8"), re.M)[1]
 
@@ -117,7 +121,7 @@ class Wheels(unittest.TestCase):
                 self.check_files(self.build(processor, processor=processor), processor)
 
     def check_files(self, wheel, processor):
-        self.assertEqual(wheel.name, f"promql-{self.version()}-{TAG % (GLIBC[processor], processor)}.whl")
+        self.assertEqual(wheel.name, self.name(processor))
         self.assertEqual(wheel.read_bytes(), self.build(f"{processor} again", processor=processor).read_bytes())
         sources = [path for path in (self.package / "promql").rglob("*") if path.suffix not in (".c", "") or path.name == "py.typed"]
         wanted = {str(path.relative_to(self.package)): path for path in sources}
@@ -152,16 +156,17 @@ class Wheels(unittest.TestCase):
         self.assertEqual(needed, wanted)
         self.assertTrue(metadata["Project-URL"].startswith("Query language, https://"))
         self.assertEqual(metadata.get_payload().strip(), (self.package / "README.md").read_text(encoding="utf-8").strip())
-        self.assertEqual((wheel["Tag"], wheel["Root-Is-Purelib"]), (TAG % (GLIBC[PROCESSOR], PROCESSOR), "false"))
+        self.assertEqual(wheel.get_all("Tag"), [TAGS[0] % (GLIBC[PROCESSOR], PROCESSOR), TAGS[1] % PROCESSOR])
+        self.assertEqual(wheel["Root-Is-Purelib"], "false")
         lines = ["[console_scripts]", "promql-rules = promql.__main__:program"]
         self.assertEqual(scripts.splitlines(), lines)
 
     def test_glibc(self):
-        """The tag is by the symbols that the files need."""
+        """The tag for glibc is by the symbols that the files need."""
         backend = self.backend()
         for names, version in ((), 17), ((b"GLIBC_2.2.5", b"GLIBC_2.4"), 4), ((b"GLIBC_2.34", b"GLIBC_2.4"), 34):
             file = b"\0" + b"\0".join([*names, b"GCC_3.0", b"nothing GLIBC_2.99", b""])
-            self.assertEqual(backend.tag("x86_64", {"a": b"", "b": file}), f"py3-none-manylinux_2_{version}_x86_64")
+            self.assertEqual(backend.tags("x86_64", {"a": b"", "b": file}), [TAGS[0] % (version, "x86_64"), TAGS[1] % "x86_64"])
         if shutil.which("objdump"):
             for processor, folder in released().items():
                 words = ["objdump", "-p", *(folder / name for name in BUILT)]
@@ -241,7 +246,7 @@ class Wheels(unittest.TestCase):
         environment = {**os.environ, "PYTHON": str(self.venv / "bin" / "python"), "PYTHONDONTWRITEBYTECODE": "1"}
         ran = subprocess.run(words, env=environment, stdout=subprocess.PIPE, stderr=subprocess.STDOUT, text=True)
         self.assertEqual(ran.returncode, 0, ran.stdout)
-        wanted = {f"promql-{self.version()}-{TAG % (GLIBC[it], it)}.whl" for it in released()}
+        wanted = {self.name(it) for it in released()}
         self.assertEqual({path.name for path in self.wheels.iterdir()}, wanted | {f"promql-{self.version()}.tar.gz"})
         self.assertEqual(listing(self.checkout), self.before[1])
 
