@@ -3,16 +3,17 @@
 from __future__ import annotations
 
 import os
+from importlib import import_module
 from importlib.machinery import EXTENSION_SUFFIXES, ExtensionFileLoader
 from importlib.util import module_from_spec, spec_from_loader
-from typing import Any, Optional, cast
+from typing import TYPE_CHECKING, Any, cast
 
-from ._answers import Calls, library_path, packaged
+from ._answers import library_path, packaged
 
 SUFFIX = ".abi3.so"
 
 
-def extension() -> Optional[Calls]:
+def extension() -> Any:
     """The extension of the variable PROMQL_EXTENSION, that of the package, or in a checkout that of its dist/; None where it does not load
     in this Python, or where the variable is empty."""
     path = os.environ.get("PROMQL_EXTENSION", packaged(f"_native{SUFFIX}"))
@@ -28,13 +29,12 @@ def extension() -> Optional[Calls]:
         module.load(os.fsencode(library_path()))
     except ImportError:
         return None
-    return cast(Calls, module)
+    return module
 
 
-def by_ctypes() -> Calls:
+if TYPE_CHECKING:
     from . import _library
 
-    return _library
-
-
-calls = extension() or by_ctypes()
+    calls = _library
+else:
+    calls = extension() or import_module("._library", __package__)

@@ -1,8 +1,9 @@
-"""The calls of libpromql.so by ctypes, over bytes and over texts: promql.h says what each does, and _answers.py what they give."""
+"""The calls of libpromql.so by ctypes, over bytes and over texts: promql.h says what each does, and _answers.py what they give. The extension (_native.c) has the same."""
 
 from __future__ import annotations
 
 import ctypes
+from contextlib import suppress
 from typing import Any, Iterable, List, Optional, Tuple
 
 from ._answers import Answer, Failure, Lines, Mode, Status, library_path
@@ -90,7 +91,7 @@ def print_query(query: bytes, mode: Mode, level: int = 0, width: int = 0) -> Tup
     return call("promql_print", _ROOM[mode] * len(query), query, len(query), mode, level, width)
 
 
-# ---- the calls over texts (Calls in _answers.py)
+# ---- the calls over texts, which raise TypeError where one is no str, UnicodeEncodeError where it has a surrogate, and MemoryError
 
 
 def _encoded(text: str) -> bytes:
@@ -106,53 +107,49 @@ def _answer(answer: Tuple[bytes, Result]) -> Answer:
     return result.status, text, result.start, result.end, result.line, result.column
 
 
+def _about(name: str, room: int, text: str, *arguments: Any) -> Answer:
+    """Makes a call about a text, with so much room for each of its bytes."""
+    encoded = _encoded(text)
+    return _answer(call(name, room * len(encoded), encoded, len(encoded), *arguments))
+
+
 def canonical(query: str) -> Answer:
-    encoded = _encoded(query)
-    return _answer(call("promql_canonical", 2 * len(encoded), encoded, len(encoded)))
+    return _about("promql_canonical", 2, query)
 
 
 def canonical_many(queries: Iterable[str]) -> Lines:
     lines: List[Optional[str]] = []
     failures: List[Tuple[int, str, Optional[Failure]]] = []
     for query in queries:
-        try:
+        answer: Optional[Answer] = None
+        with suppress(UnicodeEncodeError):
             answer = canonical(query)
-        except UnicodeEncodeError:
-            failures.append((len(lines), query, None))
-            lines.append(None)
-            continue
-        if isinstance(answer, str):
-            lines.append(answer)
-        else:
+        if not isinstance(answer, str):
             failures.append((len(lines), query, answer))
-            lines.append(None)
+        lines.append(answer if isinstance(answer, str) else None)
     return lines, failures
 
 
 def check(query: str) -> Answer:
-    encoded = _encoded(query)
-    return _answer(call("promql_check", 0, encoded, len(encoded)))
+    return _about("promql_check", 0, query)
 
 
 def collect(query: str) -> Answer:
-    encoded = _encoded(query)
-    return _answer(call("promql_collect", 4 * len(encoded), encoded, len(encoded)))
+    return _about("promql_collect", 4, query)
 
 
 def enforce(query: str, matcher: str) -> Answer:
-    encoded, encoded_matcher = _encoded(query), _encoded(matcher)
-    return _answer(call("promql_enforce", 2 * len(encoded), encoded, len(encoded), encoded_matcher, len(encoded_matcher)))
+    encoded = _encoded(query), _encoded(matcher)
+    return _about("promql_enforce", 2, query, encoded[1], len(encoded[1]))
 
 
 def rename(query: str, kind: int, old: str, new: str) -> Answer:
-    encoded, encoded_old, encoded_new = _encoded(query), _encoded(old), _encoded(new)
-    names = (encoded_old, len(encoded_old), encoded_new, len(encoded_new))
-    return _answer(call("promql_rename", 2 * len(encoded), encoded, len(encoded), kind, *names))
+    encoded = _encoded(query), _encoded(old), _encoded(new)
+    return _about("promql_rename", 2, query, kind, encoded[1], len(encoded[1]), encoded[2], len(encoded[2]))
 
 
 def explain(query: str) -> Answer:
-    encoded = _encoded(query)
-    return _answer(call("promql_explain", 2 * len(encoded), encoded, len(encoded), 1))
+    return _about("promql_explain", 2, query, 1)
 
 
 def format(query: str, level: int, width: int) -> Answer:
@@ -160,8 +157,7 @@ def format(query: str, level: int, width: int) -> Answer:
 
 
 def format_query(query: str, width: int, indent_width: int, spelling: int) -> Answer:
-    encoded = _encoded(query)
-    return _answer(call("promql_format_query", 4 * len(encoded), encoded, len(encoded), width, indent_width, spelling))
+    return _about("promql_format_query", 4, query, width, indent_width, spelling)
 
 
 def json(query: str) -> Answer:
@@ -173,18 +169,15 @@ def placed_json(query: str) -> Answer:
 
 
 def snippet(query: str, start: int, end: int) -> Answer:
-    encoded = _encoded(query)
-    return _answer(call("promql_snippet", 2 * len(encoded), encoded, len(encoded), start, end))
+    return _about("promql_snippet", 2, query, start, end)
 
 
 def places(query: str) -> Answer:
-    encoded = _encoded(query)
-    return _answer(call("promql_places", 4 * len(encoded), encoded, len(encoded)))
+    return _about("promql_places", 4, query)
 
 
 def parts(query: str) -> Answer:
-    encoded = _encoded(query)
-    return _answer(call("promql_parts", 8 * len(encoded), encoded, len(encoded)))
+    return _about("promql_parts", 8, query)
 
 
 def differences(query: str) -> Answer:
@@ -193,8 +186,7 @@ def differences(query: str) -> Answer:
 
 
 def print_tree(form: str, mode: int, level: int, width: int, parentheses: int) -> Answer:
-    encoded = _encoded(form)
-    return _answer(call("promql_print_tree", len(encoded), encoded, len(encoded), mode, level, width, parentheses))
+    return _about("promql_print_tree", 1, form, mode, level, width, parentheses)
 
 
 def set_limits(max_len: int, max_pattern_size: int, max_output: int, max_tree: int) -> None:
@@ -209,8 +201,7 @@ def set_target(number: int) -> None:
 
 
 def tokens(query: str) -> Answer:
-    encoded = _encoded(query)
-    return _answer(call("promql_tokens", 16 * len(encoded), encoded, len(encoded)))
+    return _about("promql_tokens", 16, query)
 
 
 def version() -> Answer:

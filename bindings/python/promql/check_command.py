@@ -7,12 +7,13 @@ from functools import partial
 from importlib import import_module
 from typing import Any, List, Sequence, Tuple
 
-from .documents import Document, Skipped, Status, read_document
-from .files import Fault, FileError, counted
-from .jobs import Report, add_arguments, as_bytes, bounds_of, failed, skipped_file, work_on
+from .documents import Status, read_document
+from .files import Fault, counted
+from .jobs import Report, add_arguments, as_bytes, bounds_of, work_on
 from .messages import ERROR, REJECTED, RULE, WARNING, Message, in_order, left_out, listed, placed, skipped_queries
 from .options import whole_number
 from .prometheus_api import add_server_arguments, api_of
+from .query_files import Document
 from .targets import Target, targets_of
 from .visible import visible
 
@@ -62,13 +63,8 @@ def rejections(document: Document, others: Sequence[Fault] = ()) -> Tuple[int, L
 
 
 def _check_file(arguments: argparse.Namespace, target: Target) -> Report:
-    try:
-        document = read_document(target, arguments.dashboard, dict(arguments.variable), bounds_of(arguments))
-        if isinstance(document, Skipped):
-            return skipped_file(target, document, arguments.verbose)
-        others, warnings = ([], []) if arguments.queries else document.checks()
-    except FileError as error:
-        return failed(target.name, error)
+    document = read_document(target, arguments.dashboard, dict(arguments.variable), bounds_of(arguments))
+    others, warnings = ([], []) if arguments.queries else document.checks()
     source = document.source
     count, said = rejections(document, others)
     said += [placed(source, fault, WARNING, RULE, source.located(fault)) for fault in listed(warnings, "warnings")]

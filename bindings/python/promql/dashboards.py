@@ -15,6 +15,7 @@ from .dashboard_places import JsonPath, is_of_prometheus, is_query, is_variable,
 from .files import BLANKS, BoundError, Fault, FileError, Source, counted, nested_too_deeply
 from .grafana_variables import MOST_TEXTS, VARIABLE, read_variables
 from .queries import Edit, PlacedText, Query, SameQuery
+from .query_files import Document
 
 _JSON_TOKEN = re.compile(r'"(?:[^"\\]|\\.)*"|[\[\]{},]|[^\s\[\]{}:,"]+')
 # What a value is deeper in is no dashboard.
@@ -53,17 +54,13 @@ class JsonString(NamedTuple):
         return text
 
 
-class Dashboard:
+class Dashboard(Document):
     """A dashboard. The values of variables are put into the queries, which are then to be checked and no more."""
 
     def __init__(
         self, source: Source, variables: Optional[Mapping[str, str]] = None, checker: Optional[QueryChecker] = None
     ) -> None:
-        self.source = source
-        self.checker = checker or QueryChecker()
-        self.faults: List[Fault] = []
-        self.notes: List[Fault] = []
-        self.unread: List[Fault] = []
+        super().__init__(source, checker)
         self._document = _load(source)
         self._paths: List[JsonPath] = []
         self.queries = list(self._read_queries(variables or {}))
@@ -71,9 +68,6 @@ class Dashboard:
 
     def summary(self) -> str:
         return counted(len(self.queries), "query", "queries")
-
-    def checks(self) -> Tuple[List[Fault], List[Fault]]:
-        return [], []
 
     def same(self, text: str, same_query: SameQuery) -> bool:
         source, most = self.source._replace(text=text), self.checker.bounds.max_file_nodes

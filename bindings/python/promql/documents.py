@@ -4,14 +4,15 @@ from __future__ import annotations
 
 import re
 from enum import IntEnum
-from typing import FrozenSet, Iterable, Iterator, List, Mapping, NamedTuple, Optional, Protocol, Tuple, Union
+from typing import FrozenSet, Iterable, Iterator, Mapping, Optional, Union
 
 from ._answers import Status as Answered
 from .checked_queries import FileBounds, QueryChecker
 from .dashboards import Dashboard, may_have_queries
 from .exact_yaml import NoReaderError
-from .files import BoundError, Fault, FileError, Source, nested_too_deeply, read_source
-from .queries import Query, SameQuery
+from .files import BoundError, FileError, Source, nested_too_deeply, read_source
+from .queries import Query
+from .query_files import Document
 from .rule_documents import Kind
 from .rule_files import RuleFile
 from .targets import Target
@@ -50,35 +51,12 @@ class Status(IntEnum):
         return max(statuses, key=list(Status).index)
 
 
-class Skipped(NamedTuple):
+class Skipped(Exception):
     """A file of a folder that is not looked at: why, and whether that is to be said in any case, since it may have queries."""
 
-    why: str
-    is_warning: bool
-
-
-class Document(Protocol):
-    """A file with queries."""
-
-    source: Source
-    queries: List[Query]
-    faults: List[Fault]
-    # What is left out, such as an object without rules between others.
-    notes: List[Fault]
-    # What may be a query, in a place that is not known.
-    unread: List[Fault]
-    # Whether it is surely what it was taken for.
-    is_known: bool
-    checker: QueryChecker
-
-    def summary(self) -> str:
-        """How much there is in the file."""
-
-    def checks(self) -> Tuple[List[Fault], List[Fault]]:
-        """The faults beside the queries, and warnings."""
-
-    def same(self, text: str, same_query: SameQuery) -> bool:
-        """Whether this text of a file has what this one has, but for queries which are the same by `same_query`."""
+    def __init__(self, why: str, is_warning: bool) -> None:
+        super().__init__(why)
+        self.why, self.is_warning = why, is_warning
 
 
 def read_document(
@@ -86,31 +64,32 @@ def read_document(
     is_dashboard: bool,
     variables: Optional[Mapping[str, str]] = None,
     bounds: FileBounds = FileBounds(),
-) -> Union[Document, Skipped]:
+) -> Document:
     """Reads a file within these bounds, which is a dashboard where its name ends with .json, too.
 
-    A file that was found in a folder, and is something else, is skipped. One that is not YAML is that where no line of it begins with
+    A file that was found in a folder, and is something else, raises Skipped. One that is not YAML is that where no line of it begins with
     `groups:`, as in rules, and one that is not JSON where it has no `expr`.
     """
     if target.fault:
         raise FileError(target.fault)
     if target.left:
-        return Skipped(target.left, True)
+        raise Skipped(target.left, True)
     try:
         document = _read(target, is_dashboard, variables, QueryChecker(bounds))
     except BoundError as error:
         text = error.source.text if error.source else ""
         if target.is_found and not _QUERY_KEY.search(text) and not _ESCAPE.search(text):
-            return Skipped("no rule file", target.is_for_rules)
+            raise Skipped("no rule file", target.is_for_rules) from error
         raise
     except NotReadError as error:
         if target.is_found and not GROUPS.search(error.text) and not (target.is_json and _QUERY_KEY.search(error.text)):
-            return Skipped("it is not YAML, and no line of it begins with `groups:`", _QUERY_KEY.search(error.text) is not None)
+            has_query = _QUERY_KEY.search(error.text) is not None
+            raise Skipped("it is not YAML, and no line of it begins with `groups:`", has_query) from error
         raise
     if document is None or target.is_found and not document.is_known:
         has_query = document is not None and _QUERY_KEY.search(document.source.text) is not None
         why = "it has an `expr`, and no rules or panels that are known" if has_query else "no rule file"
-        return Skipped(why, has_query or target.is_for_rules)
+        raise Skipped(why, has_query or target.is_for_rules)
     return document
 
 
@@ -170,5 +149,5 @@ def accepted(document: Document) -> Iterator[Query]:
 def recorded_in(document: Document) -> FrozenSet[str]:
     """The metrics that the rules of a file record, with those of its texts that are files."""
     files = [document, *(it.document for it in document.texts)] if isinstance(document, RuleFile) else []
-    names = (file.mappings.value(rule, "record") for file in files if isinstance(file, RuleFile) for rule in file.rules())
-    return frozenset(str(name.value) for name in names if name and name.is_scalar())
+    names = (file.mappings.name(rule, "record") for file in files if isinstance(file, RuleFile) for rule in file.rules())
+    return frozenset(filter(None, names))

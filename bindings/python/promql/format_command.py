@@ -15,12 +15,13 @@ from typing import Any, Callable, ContextManager, Iterator, List, Optional, Sequ
 import promql
 
 from .checked_queries import Budget, QueryChecker, limited_to
-from .documents import Document, Skipped, Status, read_document
+from .documents import Status, read_document
 from .files import BLANKS, STDIN, BoundError, FileError, write_file
-from .jobs import Report, add_arguments, as_bytes, bounds_of, skipped_file, work_on
-from .messages import ERROR, KEPT, LAYOUT, REJECTED, RULE, WARNING, Message, in_order, kind_of_skipped, left_out, of_error, of_file, placed
+from .jobs import Report, add_arguments, as_bytes, bounds_of, work_on
+from .messages import ERROR, KEPT, LAYOUT, REJECTED, RULE, WARNING, Message, in_order, kind_of_skipped, left_out, of_error, placed
 from .options import PEOPLE, PRETTY, STYLES, WIDTH, whole_number
 from .queries import Edit, Query, SameQuery, edited
+from .query_files import Document
 from .targets import Target, targets_of
 from .token_texts import comments_of
 from .visible import visible
@@ -190,8 +191,6 @@ def _format_file(enforcer: Callable[[str], str], arguments: argparse.Namespace, 
     queries = 0
     try:
         document = read_document(target, arguments.dashboard, bounds=bounds_of(arguments))
-        if isinstance(document, Skipped):
-            return skipped_file(target, document, arguments.verbose)
         messages += left_out(document, arguments.verbose)
         queries = len(document.queries)
         changes = _changes(document, printer, messages)

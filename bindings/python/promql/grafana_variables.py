@@ -81,7 +81,7 @@ class Variables:
         self._spelled = {text: spelling for (spelling, _), text in self._texts.items()}
         found = sorted(self._spelled, key=len, reverse=True)
         self._stand_ins = re.compile("|".join(map(re.escape, found)) or r"(?!)")
-        self.text = self.stand_in(original) or ""
+        self.text: str = self.stand_in(original) or ""
 
     def spelled(self) -> Dict[str, str]:
         """The texts that stand in the query as it is laid out, each with the variable or the string that it stands for, in the order in which

@@ -7,7 +7,6 @@ import os
 import sys
 from functools import partial
 from itertools import chain
-from multiprocessing.connection import Connection
 from typing import Any, Callable, Iterable, Iterator, List, NamedTuple, Optional, Sequence, Tuple
 
 from . import colors
@@ -75,16 +74,6 @@ def as_bytes(text: str) -> bytes:
     return text.encode("utf-8", "surrogateescape")
 
 
-def skipped_file(target: Target, skipped: Skipped, is_verbose: bool) -> Report:
-    """What is said of a file of a folder that is something else."""
-    return Report(Status.FINE, b"", of_skipped(target.name, skipped, is_verbose))
-
-
-def failed(name: str, error: FileError) -> Report:
-    """What is said of a file with which nothing is done."""
-    return Report(Status(error.number), b"", [of_error(name, error)])
-
-
 Work = Callable[[Target], Report]
 # The same with the options for the file.
 ConfiguredWork = Callable[[argparse.Namespace, Target], Report]
@@ -123,16 +112,16 @@ def _guarded(work: Work, target: Target) -> Report:
     try:
         return work(target)
     except FileError as error:
-        return failed(target.name, error)
+        message = of_error(target.name, error)
     except OSError as error:
-        reason = error.strerror or str(error)
+        message = of_file(target.name, error.strerror or str(error))
     except RecursionError:
-        return failed(target.name, nested_too_deeply(target.name))
+        message = of_error(target.name, nested_too_deeply(target.name))
     except MemoryError:
-        reason = "out of memory"
+        message = of_file(target.name, "out of memory")
     except Exception as error:  # (a fault of this package, say: no other file is to lack its report for that)
-        reason = f"{type(error).__name__}: {error}"
-    return Report(Status.FAILED, b"", [of_file(target.name, reason)])
+        message = of_file(target.name, f"{type(error).__name__}: {error}")
+    return Report(message.status, b"", [message])
 
 
 def work_on(
@@ -195,9 +184,13 @@ def _put_out(name: str, report: Report, arguments: argparse.Namespace, with_colo
 def _configured(work: ConfiguredWork, arguments: argparse.Namespace, target: Target) -> Report:
     """The report on a file, by the settings for it."""
     merged, settings = with_settings(arguments, target)
-    if target.is_found and settings.is_left_out(target.name):
-        return skipped_file(target, Skipped(f"left out by {settings.file}", False), arguments.verbose)
-    return work(merged, target).judged(merged.fail_on, merged.strict)
+    try:
+        if target.is_found and settings.is_left_out(target.name):
+            raise Skipped(f"left out by {settings.file}", False)
+        report = work(merged, target)
+    except Skipped as skipped:
+        report = Report(Status.FINE, b"", of_skipped(target.name, skipped, arguments.verbose))
+    return report.judged(merged.fail_on, merged.strict)
 
 
 def no_query(files: int) -> Message:

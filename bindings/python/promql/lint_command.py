@@ -7,15 +7,15 @@ import os
 from typing import Any, List, Tuple
 
 from .checked_queries import QueryChecker
-from .documents import Document, Skipped, Status, read_document
-from .files import STDIN, FileError, Source, counted, read_source, write_file
-from .jobs import Report, add_arguments, as_bytes, bounds_of, facts_of, failed, skipped_file, work_on
+from .documents import Status, read_document
+from .files import STDIN, Source, counted, read_source, write_file
+from .jobs import Report, add_arguments, as_bytes, bounds_of, facts_of, work_on
 from .lint.file_findings import FileFinding, FileLinter, fault_of
-from .lint.given_queries import GivenQuery
 from .lint.records import SharedRecords
 from .lint.rule_places import recorded_rules
 from .lint.table import RULES, Selection, help_of, name_of, unknown_words
 from .messages import ERROR, RULE, UNREAD, Message, left_out, listed, placed, region_of, skipped_queries
+from .query_files import Document, GivenQuery
 from .rule_files import RuleFile
 from .targets import Target, targets_of
 from .visible import visible
@@ -68,7 +68,7 @@ def _print_rules() -> int:
     return Status.FINE
 
 
-def _read(arguments: argparse.Namespace, target: Target) -> Any:
+def _read(arguments: argparse.Namespace, target: Target) -> Document:
     if target.query is not None:
         return GivenQuery(Source(target.name, target.query, ""), QueryChecker(bounds_of(arguments)))
     if target.name == STDIN and not arguments.files:
@@ -78,15 +78,10 @@ def _read(arguments: argparse.Namespace, target: Target) -> Any:
 
 def _lint_file(arguments: argparse.Namespace, target: Target) -> Report:
     selection = Selection(tuple(sum(arguments.select, ())), tuple(sum(arguments.ignore, ())), arguments.steps)
-    try:
-        document = _read(arguments, target)
-        if isinstance(document, Skipped):
-            return skipped_file(target, document, arguments.verbose)
-        if arguments.fix:
-            return _fix_file(arguments, selection, target, document)
-        return _report(arguments, document, selection, [])
-    except FileError as error:
-        return failed(target.name, error)
+    document = _read(arguments, target)
+    if arguments.fix:
+        return _fix_file(arguments, selection, target, document)
+    return _report(arguments, document, selection, [])
 
 
 def _fix_file(arguments: argparse.Namespace, selection: Selection, target: Target, document: Document) -> Report:

@@ -7,7 +7,7 @@ from functools import lru_cache
 from typing import FrozenSet, Iterator, List, NamedTuple, Sequence, Tuple
 
 from . import tree
-from .documents import Document, Status, accepted, recorded_in
+from .documents import Status, accepted, recorded_in
 from .files import BoundError, counted
 from .jobs import Report, as_bytes
 from .lint.file_findings import FileLinter
@@ -17,6 +17,7 @@ from .lint.trees import NAME
 from .messages import ERROR, INFO, UNREAD, WARNING, Message, listed, of_server, placed
 from .prometheus_api import ApiError, PrometheusApi
 from .queries import Query
+from .query_files import Document
 from .visible import visible
 
 NO_METRIC, NO_LABEL, NO_VALUE, NO_SERIES, MANY_SERIES, MANY_SAMPLES, READS = LIVE

@@ -4,9 +4,10 @@ from __future__ import annotations
 
 from typing import Any, Dict, Iterable, Iterator, List, NamedTuple, Optional, Tuple
 
-from .documents import Document, Skipped, Status
+from .documents import Skipped, Status
 from .files import Fault, FileError, Source
 from .queries import Query
+from .query_files import Document
 
 # From the least severe on.
 SEVERITIES = INFO, WARNING, ERROR = ("info", "warning", "error")

@@ -10,10 +10,11 @@ from typing import Any, Dict, FrozenSet, Iterable, Iterator, List, Optional, Set
 import promql
 
 from .check_command import rejections
-from .documents import Document, Skipped, Status, accepted, read_document, recorded_in
-from .jobs import Report, add_arguments, as_bytes, bounds_of, skipped_file, work_on
+from .documents import Status, accepted, read_document, recorded_in
+from .jobs import Report, add_arguments, as_bytes, bounds_of, work_on
 from .messages import in_order, left_out, of_server, skipped_queries
 from .prometheus_api import ApiError, PrometheusApi, add_server_arguments, api_of
+from .query_files import Document
 from .targets import Target, targets_of
 from .visible import visible
 
@@ -44,8 +45,6 @@ def _run(arguments: argparse.Namespace) -> int:
 
 def _look_at_file(arguments: argparse.Namespace, target: Target) -> Report:
     document = read_document(target, arguments.dashboard, bounds=bounds_of(arguments))
-    if isinstance(document, Skipped):
-        return skipped_file(target, document, arguments.verbose)
     _, said = rejections(document)
     said += [*left_out(document, arguments.verbose), *skipped_queries(document, arguments.verbose)]
     return Report(Status.FINE, b"", in_order(said), len(document.queries), facts=(_places_in(document), recorded_in(document)))

@@ -3,12 +3,15 @@
 from __future__ import annotations
 
 from array import array
-from typing import Callable, Iterable, List, NamedTuple, Optional, Protocol, Sequence
+from typing import TYPE_CHECKING, Callable, Iterable, List, NamedTuple, Optional, Protocol, Sequence
 
 import promql
 
 from ._answers import Status
 from .files import BLANKS, Fault
+
+if TYPE_CHECKING:
+    from .grafana_variables import Variables
 
 SameQuery = Callable[[str, str], bool]
 
@@ -59,23 +62,6 @@ class Spelling(Protocol):
         """What writes this query there instead."""
 
 
-class VariableTexts(Protocol):
-    """What stands in a query for the variables that its file has there."""
-
-    # The query as the file has it, and as it is laid out.
-    original: str
-    text: str
-
-    def put_back(self, text: str) -> str:
-        """A text with the variables in it again."""
-
-    def stand_in(self, query: str) -> Optional[str]:
-        """A query with the same variables as it is laid out, if it is one."""
-
-    def come_back(self, new: str) -> Optional[str]:
-        """The query that was laid out with its variables in it again, if they all come back."""
-
-
 class Query(NamedTuple):
     """A query of a file."""
 
@@ -87,7 +73,8 @@ class Query(NamedTuple):
     # Why it is neither checked nor formatted, or why it is not formatted.
     skipped: str = ""
     kept: str = ""
-    variables: Optional[VariableTexts] = None
+    # What stands in it for the variables that its file has there.
+    variables: Optional[Variables] = None
     # Of one that is skipped: whether it may be a query of Prometheus all the same.
     is_unread: bool = False
 

@@ -60,9 +60,11 @@ class QuickYaml:
             raise Unclear(source.text.index("\t"))
 
     def refuse(self) -> None:
+        """Raises, since the other reader may know better."""
         raise Unclear
 
     def token(self, key: Node, value: Node) -> Token:
+        """The place of a scalar that is the value of this key."""
         start, sign = value.start, _VALUE.match(self._text, key.end)
         # (what an alias stands for is before its key, and has an anchor)
         is_alias = start < key.start and value.anchor

@@ -77,7 +77,7 @@ class RuleChecks:
         """Looks at the groups of a file, or of an object of this kind."""
         self._names, self._rules, self._fields = set(), set(), _OBJECT_FIELDS.get(object_kind, frozenset())
         for group in (group for group in groups if group.kind == "mapping"):
-            name = self._text(group, "name")
+            name = self._mappings.text(group, "name")
             if name and name in self._names:
                 self._complain(self._place(group, "name"), f"a group `{name}` is there before")
             self._names.add(name)
@@ -112,7 +112,7 @@ class RuleChecks:
 
     def _look_at_rule(self, rule: Node) -> None:
         self._look_at_fields(rule, "rule", _RULE_FIELDS | self._fields)
-        record, alert = self._name(rule, "record"), self._name(rule, "alert")
+        record, alert = self._mappings.name(rule, "record"), self._mappings.name(rule, "alert")
         if record and alert:
             self._complain(self._place(rule, "alert"), "a rule with both `record` and `alert`")
         if not record and not alert:
@@ -140,7 +140,7 @@ class RuleChecks:
     def _look_for_same(self, rule: Node) -> None:
         """Warns of a rule with the name and the labels of one before it."""
         if id(rule) not in self._identities:
-            name = self._name(rule, "alert") or self._name(rule, "record")
+            name = self._mappings.name(rule, "alert") or self._mappings.name(rule, "record")
             entries = [entry for entry in self._labels(rule, "labels") if entry[0].is_scalar() and entry[1].is_scalar()]
             # (an own label comes before one that is merged)
             labels = {key.value: value.value for key, value in reversed(entries)}
@@ -240,15 +240,6 @@ class RuleChecks:
         if length > _LONGEST:
             self._complain(value, f"`{key}` is longer than 292 years")
         return length
-
-    def _text(self, owner: Node, key: str) -> str:
-        value = self._mappings.value(owner, key)
-        return str(value.value) if value and value.is_scalar() and not value.is_null() else ""
-
-    def _name(self, rule: Node, key: str) -> str:
-        """The name of a rule, where it has one: `~` and `null` are texts there."""
-        value = self._mappings.value(rule, key)
-        return str(value.value) if value and value.is_scalar() else ""
 
     def _place(self, owner: Node, key: str) -> Node:
         """Where to complain about a field: at its key, or at what should have it."""

@@ -91,7 +91,7 @@ def documents_of(root: Node, mappings: Mappings, looks_inside: bool = True) -> I
             continue
         seen.add(id(node))
         items = mappings.value(node, "items")
-        if _text(node, "kind", mappings).endswith("List") and items and items.kind == "sequence":
+        if mappings.name(node, "kind").endswith("List") and items and items.kind == "sequence":
             todo += reversed(items.value)
             continue
         document = _document_of(node, mappings)
@@ -113,7 +113,7 @@ def _document_of(node: Node, mappings: Mappings) -> RuleDocument:
         return RuleDocument(Kind.WRONG, node, True, "the document is not a mapping")
     if mappings.entry(node, "groups"):
         return RuleDocument(_kind_of_groups(node, "groups", mappings), node, True)
-    kind, version = (_text(node, key, mappings) for key in ("kind", "apiVersion"))
+    kind, version = (mappings.name(node, key) for key in ("kind", "apiVersion"))
     if kind and version:
         return _object_of(node, kind, version, mappings)
     if _has_items(node, "tests", _TEST_FIELDS, mappings):
@@ -221,8 +221,3 @@ def _has_items(mapping: Node, key: str, fields: Sequence[str], mappings: Mapping
         return False
     first = items.value[:_MOST_ITEMS]
     return mappings.answer("+".join(fields), items, lambda: any(mappings.entry(item, it) for item in first for it in fields))
-
-
-def _text(mapping: Node, key: str, mappings: Mappings) -> str:
-    value = mappings.value(mapping, key)
-    return str(value.value) if value and value.is_scalar() else ""

@@ -15,14 +15,14 @@ from .checked_queries import NO_BOUND, QueryChecker
 from .dashboards import Dashboard
 from .exact_yaml import ExactYaml, look_for_reader
 from .files import BoundError, Fault, FileError, Source, counted, nested_too_deeply
-from .placed_files import PlacedFile
 from .queries import Query, SameQuery
+from .query_files import Document, PlacedFile
 from .quick_yaml import QuickYaml, Unclear, quick_yaml
 from .rule_checks import LOOKED_AT, RuleChecks
 from .rule_documents import WITH_QUERIES, Kind, RuleDocument, documents_of, is_board, is_logql, is_surely_of_rules
 from .scalars import Scalar
 from .yaml_mappings import Entry, Mappings
-from .yaml_nodes import Node, YamlText
+from .yaml_nodes import Node
 
 # The parts of a rule file that are in one, by the key; in a list it is None. What is unknown in a document may have groups as well.
 _PARTS = {
@@ -54,13 +54,12 @@ _IN_TEXT = "it is in a text of this file"
 _UNREAD = "the places of its characters cannot be told: write it in another style of YAML"
 
 
-class RuleFile:
+class RuleFile(Document):
     """A rule file, of one document or several."""
 
     def __init__(self, source: Source, checker: Optional[QueryChecker] = None, has_texts: bool = True) -> None:
         look_for_reader()
-        self.source = source
-        self.checker = checker or QueryChecker()
+        super().__init__(source, checker)
         try:
             yaml = quick_yaml(source, self.checker.nodes_left)
             self.checker.nodes_left = yaml.nodes_left
@@ -84,7 +83,7 @@ class RuleFile:
 
     def _take_text(self, name: str, text: Source, offsets: Sequence[int]) -> None:
         """Reads a file that is a text of this one."""
-        file: Union[Dashboard, RuleFile]
+        file: Document
         try:
             file = Dashboard(text, None, self.checker) if is_board(name) else RuleFile(text, self.checker, has_texts=False)
         except FileError as error:
@@ -157,7 +156,7 @@ class RuleFile:
 class _Parts:
     """The rules of a file, and its queries."""
 
-    def __init__(self, source: Source, yaml: YamlText) -> None:
+    def __init__(self, source: Source, yaml: Union[QuickYaml, ExactYaml]) -> None:
         self._source = source
         self.yaml = yaml
         self.faults: List[Fault] = []

@@ -13,7 +13,7 @@ import re
 from contextlib import contextmanager
 from fnmatch import fnmatchcase
 from functools import lru_cache
-from typing import Any, Callable, Dict, Iterator, List, NamedTuple, Optional, Tuple
+from typing import Any, Callable, Dict, Iterator, List, NamedTuple, Tuple
 
 from . import limits, set_limits
 from .checked_queries import FileBounds, forget_verdicts

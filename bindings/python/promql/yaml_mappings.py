@@ -61,6 +61,16 @@ class Mappings:
         entry = self.entry(mapping, key)
         return entry[1] if entry else None
 
+    def name(self, mapping: Node, key: str) -> str:
+        """The text of a scalar under a key, or nothing. (`~` and `null` are texts for the name of a rule.)"""
+        value = self.value(mapping, key)
+        return str(value.value) if value and value.kind == "scalar" else ""
+
+    def text(self, mapping: Node, key: str) -> str:
+        """The same, but for what is null."""
+        value = self.value(mapping, key)
+        return str(value.value) if value and value.kind == "scalar" and not value.is_null() else ""
+
     def entries(self, mapping: Node) -> Sequence[Entry]:
         """All entries, the own ones before those that are merged; a key may be there again."""
         if mapping.kind == "mapping" and not self._own(mapping).merges:

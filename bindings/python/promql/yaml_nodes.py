@@ -2,7 +2,7 @@
 
 from __future__ import annotations
 
-from typing import Any, List, NamedTuple, Protocol
+from typing import Any, NamedTuple
 
 TEXT_TAGS = {f"tag:yaml.org,2002:{name}" for name in ("str", "int", "float", "bool", "timestamp")}
 NULLS = ("", "~", "null", "Null", "NULL")
@@ -58,17 +58,3 @@ class Token(NamedTuple):
     start: int
     before: int
     in_flow: bool
-
-
-class YamlText(Protocol):
-    """A text of YAML that was read."""
-
-    # The root of each of its documents.
-    roots: List[Node]
-    has_aliases: bool
-
-    def token(self, key: Node, value: Node) -> Token:
-        """The place of a scalar that is the value of this key."""
-
-    def refuse(self) -> None:
-        """Raises where another reader may know better than this one."""

@@ -58,14 +58,14 @@ class LongQueries(unittest.TestCase):
     def test_wrong_fixes(self):
         """Fixes that are wrong are found by halves, and the others are kept."""
         query = "+".join(["(a)"] * 100)
-        wrong = fixes.edited_query
+        wrong = fixes.edited
 
         def edited(text, edits):
             edited_text = wrong(text, edits)
             # (the third name is lost where its parentheses are taken away)
             return edited_text.replace("+a+", "+b+", 1) if any(edit.start == 8 for edit in edits) else edited_text
 
-        with mock.patch.object(fixes, "edited_query", edited):
+        with mock.patch.object(fixes, "edited", edited):
             found = lint(query, select=["P601"])
         self.assertEqual([number for number, it in enumerate(found) if not it.fix], [2])
 

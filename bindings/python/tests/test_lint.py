@@ -7,7 +7,7 @@ from pathlib import Path
 
 import promql
 from promql.lint import RULES, RuleContext, Selection, Severity, fix, known_codes, lint, look_at_tree
-from promql.lint.fixes import edited_query
+from promql.queries import edited as edited_query
 from promql.lint.records import RecordedRule, Records
 from promql.lint.subject import Subject
 from promql.lint.table import LIVE

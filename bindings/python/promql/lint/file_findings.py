@@ -12,17 +12,15 @@ import promql
 
 from ..checked_queries import Budget
 from ..dashboards import Dashboard, JsonString
-from ..documents import Document
 from ..files import BLANKS, BoundError, Fault, FileError, Source
-from ..placed_files import PlacedSpelling
 from ..queries import Edit, Query, edited
+from ..query_files import Document, GivenQuery, PlacedSpelling
 from ..rule_files import RuleFile
 from ..scalars import Scalar
 from . import found_in
 from .comments import Ignored, codes_of, ignored_in, silenced_in
 from .findings import Finding, Fix, Severity, Span, TextEdit, Tree
-from .fixes import all_fixed, edited_query
-from .given_queries import GivenQuery
+from .fixes import all_fixed
 from .known_looks import LOOKS, KnownLooks, take
 from .records import SharedRecords
 from .rule_places import MOST_INTERVALS, RulePlace, rules_of
@@ -227,7 +225,7 @@ class FileLinter:
     def _fixed_query(self, query: Query, fix: Fix) -> Optional[str]:
         """The query with a fix, as long as those of the file are not too long together."""
         self._fixed_length += len(query.text)
-        return _with_variables(query, edited_query(query.text, fix.edits)) if self._fixed_length <= _MOST_FIXED else None
+        return _with_variables(query, edited(query.text, fix.edits)) if self._fixed_length <= _MOST_FIXED else None
 
     def _plain_edits(self, query: Query, edits: Sequence[TextEdit]) -> Optional[List[Edit]]:
         """Edits of the file, where it has the parts of the query as they are."""
@@ -251,7 +249,7 @@ class FileLinter:
     def edits_of(self, found: FileFinding) -> List[Edit]:
         """The edits of the file that make the fix of a finding. Raises where it would not be read as that."""
         query = next(it for it in self._document.queries if it.offsets[0] <= found.start <= it.offsets[-1])
-        if not found.finding.fix or self._with([(query, edited_query(query.text, found.finding.fix.edits))]) is None:
+        if not found.finding.fix or self._with([(query, edited(query.text, found.finding.fix.edits))]) is None:
             raise FileError("left as it is: fixed, it would not be read as the same")
         return self.fixed_edits
 

@@ -5,7 +5,11 @@ from __future__ import annotations
 from enum import Enum
 from typing import Any, Dict, NamedTuple, Optional, Tuple
 
+from ..queries import Edit
+
 Tree = Dict[str, Any]
+# A text in place of a part of a query.
+TextEdit = Edit
 # Parts of a tree, and what is to be there instead; None for a part leaves it out of its list.
 Changes = Tuple[Tuple[Tree, Any], ...]
 
@@ -23,14 +27,6 @@ class Span(NamedTuple):
 
     start: int
     end: int
-
-
-class TextEdit(NamedTuple):
-    """A text in place of the part `query[start:end]`."""
-
-    start: int
-    end: int
-    text: str
 
 
 class Fix(NamedTuple):

@@ -7,6 +7,7 @@ from typing import Any, Callable, Dict, Iterator, List, NamedTuple, Optional, Se
 
 import promql
 
+from ..queries import edited
 from ..token_texts import comments_of
 from .findings import Finding, Fix, TextEdit, Tree
 
@@ -16,14 +17,6 @@ _MOST_ROUNDS = 20
 _FEW = 4
 # How often a query is read at most to check what is found in it, and to fix it.
 _MOST_READS = 24
-
-
-def edited_query(query: str, edits: Sequence[TextEdit]) -> str:
-    at, parts = 0, []
-    for edit in sorted(edits):
-        parts += [query[at : edit.start], edit.text]
-        at = edit.end
-    return "".join([*parts, query[at:]])
 
 
 class Changed(NamedTuple):
@@ -63,7 +56,7 @@ class FixChecker:
         if not self._reads:
             return None
         self._reads -= 1
-        changed = edited_query(self._query, [edit for fix in fixes for edit in fix.edits])
+        changed = edited(self._query, [edit for fix in fixes for edit in fix.edits])
         try:
             tree = promql.parse(changed)
         except ValueError:

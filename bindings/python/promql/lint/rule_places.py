@@ -98,7 +98,7 @@ class _Reader:
         recorded: Dict[str, int] = {}
         parts = list(self._parts())
         for interval, rule in parts:
-            name = self._text(rule, "record") if interval else ""
+            name = self._mappings.text(rule, "record") if interval else ""
             if name and interval:
                 recorded[name] = min(interval, recorded.get(name, interval))
         return RulePlaces([place for part in parts for place in self._place(*part, recorded)], sorted(self._cut.values()))
@@ -108,7 +108,7 @@ class _Reader:
         lists: Set[Tuple[int, Optional[int]]] = set()
         intervals: Dict[int, Set[Optional[int]]] = {}
         for group in self._groups:
-            interval, items = _interval(self._text(group, "interval")), self._mappings.value(group, "rules")
+            interval, items = _interval(self._mappings.text(group, "interval")), self._mappings.value(group, "rules")
             if not items or (id(items), interval) in lists:
                 continue
             lists.add((id(items), interval))
@@ -125,17 +125,13 @@ class _Reader:
     def _place(self, interval: Optional[int], rule: Node, recorded: Dict[str, int]) -> Iterator[RulePlace]:
         query = self._mappings.value(rule, "expr")
         if query and query.is_scalar():
-            alert, record = self._text(rule, "alert"), self._text(rule, "record")
+            alert, record = self._mappings.text(rule, "alert"), self._mappings.text(rule, "record")
             labels = self._template_labels(rule) if alert else frozenset()
             values, queries = self._values_and_queries(rule) if alert else (frozenset(), ())
             records, same = self._records.records, self._records.same.get(id(rule))
             circle = records.circle if record in records.circle else frozenset()
             context = RuleContext(alert, record, interval, labels, recorded, records, circle, same, values, queries)
             yield RulePlace(rule.start, _end(rule), query.end, context)
-
-    def _text(self, mapping: Node, key: str) -> str:
-        value = self._mappings.value(mapping, key)
-        return str(value.value) if value and value.is_scalar() and not value.is_null() else ""
 
     def _template_labels(self, rule: Node) -> FrozenSet[str]:
         """The labels that templates show, but for those of which they ask first. Of more than any alert shows the first ones are taken."""

@@ -6,14 +6,12 @@ from functools import lru_cache
 from pathlib import Path
 from typing import List, Optional
 
-from ..checked_queries import QueryChecker
-from ..documents import Document
 from ..files import FileError, Source
 from ..lint.file_findings import FileLinter
 from ..lint.findings import Severity
-from ..lint.given_queries import GivenQuery
 from ..lint.table import RULES, Selection
 from ..queries import Edit
+from ..query_files import Document, GivenQuery
 from .problems import INFORMATION, WARNING, Problem
 
 _SEVERITIES = {Severity.ERROR: WARNING, Severity.WARNING: WARNING, Severity.INFO: INFORMATION}
@@ -42,7 +40,7 @@ def fix_edits(file: Document, selection: Selection, wanted: Optional[Problem]) -
 
 def given_query(text: str) -> GivenQuery:
     """A query that is a document."""
-    return GivenQuery(Source("", text, ""), QueryChecker())
+    return GivenQuery(Source("", text, ""))
 
 
 @lru_cache(maxsize=None)

@@ -39,9 +39,8 @@ def _groups(file: RuleFile) -> Iterator[Group]:
         for group in document.groups(file.mappings) if document.kind in (Kind.RULES, Kind.GRAFANA) else ():
             if group.kind == "mapping" and id(group) not in seen:
                 seen.add(id(group))
-                name = file.mappings.value(group, "name")
                 length = len(file.source.text[group.start : end_of(group)[0]].rstrip())
-                yield Group(str(name.value) if name and name.is_scalar() else "", group.start, group.start + length)
+                yield Group(file.mappings.name(group, "name"), group.start, group.start + length)
 
 
 def symbols(document: Document) -> List[Any]:

@@ -7,14 +7,13 @@ from bisect import bisect_right
 from functools import lru_cache
 from typing import Iterable, Iterator, List, NamedTuple, Optional, Sequence, Tuple, Union
 
-import promql
-
 from ..checked_queries import Budget, QueryChecker
 from ..dashboards import Dashboard, may_have_queries
 from ..documents import GROUPS, document_of
 from ..files import Fault, FileError, Source
+from ..grafana_variables import Variables
 from ..messages import listed
-from ..queries import Query, VariableTexts
+from ..queries import Query
 from ..rule_files import RuleFile
 from ..token_texts import tokens_of
 from ..yaml_nodes import Node
@@ -54,7 +53,7 @@ def looked_at(text: str) -> LookedAt:
 class PlacedQuery:
     """A query of a document, with the place of each of its characters, and what stands in it for the variables of a dashboard."""
 
-    def __init__(self, text: str, offsets: Sequence[int], variables: Optional[VariableTexts] = None) -> None:
+    def __init__(self, text: str, offsets: Sequence[int], variables: Optional[Variables] = None) -> None:
         self.text = text
         self.variables = variables
         self.names, self.roles, self.folds, _ = looked_at(text)
@@ -207,16 +206,15 @@ def end_of(rule: Node) -> Tuple[int, bool]:
 def _rule(file: RuleFile, node: Node, end: int, is_whole: bool, queries: List[PlacedQuery], text: str) -> Rule:
     begin = file.source.lines.begin(node.start)
     is_alone = is_whole and text[begin : node.start].strip(" ") == "-" and not node.style
-    record, alert = file.mappings.value(node, "record"), file.mappings.value(node, "alert")
+    record = file.mappings.value(node, "record")
     name, place = "", (0, 0)
     if record and record.is_text() and node.start <= record.start < end:
         quotes = len(record.style) if record.style in ("'", '"') else 0
         place = record.start + quotes, record.end - quotes
         # (a name with an escape, a tag or an anchor has no place)
         name = record.value if text[slice(*place)] == record.value else ""
-    title = str(alert.value) if alert and alert.is_scalar() else ""
     end_of_rule = node.start + len(text[node.start : end].rstrip(" \r\n"))
-    return Rule(begin, end_of_rule, is_alone, name, *place, title, queries)
+    return Rule(begin, end_of_rule, is_alone, name, *place, file.mappings.name(node, "alert"), queries)
 
 
 def read_lines(text: str, start: int, end: int) -> Optional[List[Rule]]:
