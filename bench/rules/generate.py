@@ -6,8 +6,8 @@ The queries are those of bench/queries, in the styles that people write them in.
 
 from __future__ import annotations
 
+import argparse
 import random
-import sys
 from pathlib import Path
 from typing import Iterator
 
@@ -67,15 +67,16 @@ def rule_file(generator: random.Random, choices: list[str]) -> str:
     return "\n".join(["# Made by bench/rules.", "groups:", *groups]) + "\n"
 
 
-def main(folder: str, count: str = "1000") -> None:
+def main() -> None:
+    parser = argparse.ArgumentParser(description="Writes rule files of some 3,500 bytes each into a new folder.")
+    parser.add_argument("folder", metavar="FOLDER", type=Path)
+    parser.add_argument("count", metavar="FILES", type=int, nargs="?", default=1_000)
+    arguments = parser.parse_args()
     generator, choices = random.Random(1), queries()
-    Path(folder).mkdir(parents=True)
-    for number in range(int(count)):
-        text = rule_file(generator, choices)
-        Path(folder, f"rules{number:04}.yml").write_text(text, encoding="utf-8")
+    arguments.folder.mkdir(parents=True)
+    for number in range(arguments.count):
+        (arguments.folder / f"rules{number:04}.yml").write_text(rule_file(generator, choices), encoding="utf-8")
 
 
 if __name__ == "__main__":
-    if not 2 <= len(sys.argv) <= 3 or sys.argv[1].startswith("-"):
-        sys.exit(__doc__)
-    main(*sys.argv[1:])
+    main()

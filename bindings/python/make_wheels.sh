@@ -2,7 +2,7 @@
 # bindings/python/make_wheels.sh FOLDER   makes a wheel for each processor that dist/ has, and the source distribution, by pip and without a
 #                                         network; PYTHON names another Python than python3
 set -eu
-if [ $# != 1 ] || [ -z "$1" ]; then
+if [ $# != 1 ] || [ -z "$1" ] || [ "${1#-}" != "$1" ]; then
     sed -n '2,3s/^# //p' "$0" >&2
     exit 64
 fi
