@@ -19,20 +19,7 @@ _ROOM = {Mode.LINE: 2, Mode.PRETTY: 4, Mode.JSON: 32, Mode.PLACED_JSON: 40}
 class Result(ctypes.Structure):
     """`struct promql_result`."""
 
-    status: int
-    length: int
-    start: int
-    end: int
-    line: int
-    column: int
-    _fields_ = [
-        ("status", ctypes.c_uint32),
-        ("length", ctypes.c_size_t),
-        ("start", ctypes.c_size_t),
-        ("end", ctypes.c_size_t),
-        ("line", ctypes.c_size_t),
-        ("column", ctypes.c_size_t),
-    ]
+    _fields_ = [("status", ctypes.c_uint32), *((name, ctypes.c_size_t) for name in ("length", "start", "end", "line", "column"))]
 
 
 _QUERY = [ctypes.c_char_p, ctypes.c_size_t]

@@ -35,16 +35,18 @@ class Expr(Node):
     TYPE: ClassVar[str]
     CHILDREN: ClassVar[Tuple[str, ...]] = ()
 
-    def children(self) -> Tuple[Expr, ...]:
-        """The expressions right below it: the parameter of an aggregation comes before what is aggregated."""
-        found: List[Expr] = []
+    def steps(self) -> Iterator[Tuple[str, Expr]]:
+        """The expressions right below it, each with the member of the JSON form that it is: `lhs`, `args[0]`."""
         for name in self.CHILDREN:
             value = getattr(self, name)
             if isinstance(value, Expr):
-                found.append(value)
+                yield name, value
             elif value is not None:
-                found.extend(value)
-        return tuple(found)
+                yield from ((f"{name}[{number}]", it) for number, it in enumerate(value))
+
+    def children(self) -> Tuple[Expr, ...]:
+        """The expressions right below it: the parameter of an aggregation comes before what is aggregated."""
+        return tuple([it for _, it in self.steps()])
 
     def with_children(self: AnyExpr, children: Sequence[Expr]) -> AnyExpr:
         """The same over other expressions, of which there are as many."""

@@ -7,15 +7,13 @@ from functools import partial
 from importlib import import_module
 from typing import Any, List, Sequence, Tuple
 
-from .documents import Status, read_document
+from .checked_queries import Document
+from .documents import Status, Target, read_document, targets_of
 from .files import Fault, counted
 from .jobs import Report, add_arguments, as_bytes, bounds_of, work_on
 from .messages import ERROR, REJECTED, RULE, WARNING, Message, in_order, left_out, listed, placed, skipped_queries
-from .options import whole_number
-from .prometheus_api import add_server_arguments, api_of
-from .query_files import Document
-from .targets import Target, targets_of
-from .visible import visible
+from .options import add_server_arguments, whole_number
+from .terminal import visible
 
 # The module that asks a server, which needs the linter.
 _LIVE = "promql.live_checks"
@@ -49,8 +47,11 @@ def _variable(text: str) -> Tuple[str, str]:
 
 
 def _run(arguments: argparse.Namespace) -> int:
-    api = api_of(arguments)
-    at_end = partial(import_module(_LIVE).live_report, api, arguments) if api else None
+    at_end = None
+    if arguments.prometheus is not None:
+        # (what asks a server takes long to import)
+        api = import_module(".prometheus_api", __package__).api_of(arguments)
+        at_end = partial(import_module(_LIVE).live_report, api, arguments)
     return work_on(targets_of(arguments.files, arguments.dashboard), _check_file, arguments, at_end=at_end)
 
 

@@ -1,15 +1,17 @@
-"""What the library says of the queries of files: of each text once in a run, and within a bound of all patterns of a file."""
+"""Files with queries, and what the library says of these: of each text once in a run, and within a bound of all patterns of a file."""
 
 from __future__ import annotations
 
 import re
+import sys
 from contextlib import contextmanager
-from typing import Dict, Iterable, Iterator, List, NamedTuple, Optional, Sequence, Set
+from typing import Any, Dict, Iterable, Iterator, List, NamedTuple, Optional, Sequence, Set, Tuple
 
 import promql
 
-from .files import Fault
-from .queries import Query
+from .files import BoundError, Fault, Source
+from .queries import Edit, Query, SameQuery
+from .token_texts import tokens_of
 
 # The most bytes of queries of a file for which that is said.
 _MOST_EXPLAINED = 65_536
@@ -17,7 +19,7 @@ _MOST_EXPLAINED = 65_536
 # the first trial of each query; and as how many characters a variable counts.
 _MOST_VARIABLES = 10_000
 _MOST_TRIED, _VARIABLE = 1_000_000, 100
-# Characters of the texts whose verdicts are kept, and how many are counted for a verdict.
+# Characters of what is kept of texts, and how many are counted for a verdict.
 _MOST_KEPT, _VERDICT = 8_388_608, 1_000
 _SIZE = re.compile(r"patterns are too large: (\d+),", re.ASCII)
 
@@ -45,6 +47,14 @@ class Budget:
 
 
 NO_BOUND = Budget(2**63)
+# What a query costs the linter beside its tokens.
+_QUERY = 4
+
+
+def take(query: str, budget: Budget) -> None:
+    """Takes the tokens of a query away from what may be looked at, or raises. (Of punctuation only an opening parenthesis counts.)"""
+    if not budget.takes(_QUERY) or not budget.takes(sum(it.kind != "punctuation" or it.text == "(" for it in tokens_of(query))):
+        raise BoundError("the queries of the file have too many tokens together")
 
 
 @contextmanager
@@ -72,41 +82,41 @@ def pattern_size(query: str) -> int:
     return 0
 
 
-class _Verdicts:
-    """Why texts are rejected, for those that were checked lately."""
+class Store(Dict[Any, Any]):
+    """Answers, by what was asked for, till they are large together: then all are forgotten."""
 
-    def __init__(self) -> None:
-        self._known: Dict[str, Optional[ValueError]] = {}
-        self._kept = 0
+    _size = 0
+
+    def keep(self, key: Any, answer: Any, size: int) -> Any:
+        """Keeps an answer, which counts as so many characters, and returns it."""
+        if self._size + size > _MOST_KEPT:
+            self.forget()
+        self._size += size
+        self[key] = answer
+        return answer
 
     def forget(self) -> None:
-        self._known, self._kept = {}, 0
-
-    def of(self, query: str) -> Optional[ValueError]:
-        if query not in self._known:
-            found = _check(query)
-            self._kept += len(query) + _VERDICT
-            if self._kept > _MOST_KEPT:
-                self._known, self._kept = {}, len(query) + _VERDICT
-            self._known[query] = found
-        return self._known[query]
+        self.clear()
+        self._size = 0
 
 
-def _check(query: str) -> Optional[ValueError]:
+# Why texts are rejected, for those that were checked lately. They are forgotten where the library has other limits.
+VERDICTS = Store()
+
+
+def _verdict(query: str) -> Optional[ValueError]:
+    """Why a text is rejected, or nothing."""
+    if query in VERDICTS:
+        found: Optional[ValueError] = VERDICTS[query]
+        return found
     try:
         promql.check(query)
+        found = None
     except ValueError as error:
         # (the frames would be kept, too)
-        return error.with_traceback(None)
-    return None
-
-
-_VERDICTS = _Verdicts()
-
-
-def forget_verdicts() -> None:
-    """Asks the library anew from now on, since it has other limits."""
-    _VERDICTS.forget()
+        found = error.with_traceback(None)
+    VERDICTS.keep(query, found, len(query) + _VERDICT)
+    return found
 
 
 class QueryChecker:
@@ -159,7 +169,7 @@ class QueryChecker:
     @staticmethod
     def error(text: str) -> Optional[ValueError]:
         """Why the library rejects a text, or nothing. (What only the target rejects can be looked at and laid out.)"""
-        found = _VERDICTS.of(text)
+        found = _verdict(text)
         return None if isinstance(found, promql.RefusedError) else found
 
     def faults(self, queries: Iterable[Query]) -> List[Fault]:
@@ -172,7 +182,7 @@ class QueryChecker:
             if not self.admits(query.text):
                 left.append(query)
                 continue
-            error = _VERDICTS.of(query.text)
+            error = _verdict(query.text)
             if error:
                 found.append(self.rejected(query, error))
         return found + self.left(left)
@@ -197,3 +207,77 @@ class QueryChecker:
         which = "this query is" if count == 1 else f"this query and {count - 1:,} more with patterns are"
         message = f"the patterns of the file are too large together: {self._over}, at most {self._most}; {which} not looked at"
         return [queries[0].whole(f"{message} (--max-file-patterns)")]
+
+
+class Document:
+    """A file with queries."""
+
+    queries: List[Query]
+    # Whether it is surely what it was taken for.
+    is_known = True
+
+    def __init__(self, source: Source, checker: Optional[QueryChecker] = None) -> None:
+        self.source = source
+        self.checker = checker or QueryChecker()
+        self.faults: List[Fault] = []
+        # What is left out, such as an object without rules between others.
+        self.notes: List[Fault] = []
+        # What may be a query, in a place that is not known.
+        self.unread: List[Fault] = []
+
+    def summary(self) -> str:
+        """How much there is in the file."""
+        return "1 query"
+
+    def checks(self) -> Tuple[List[Fault], List[Fault]]:
+        """The faults beside the queries, and warnings."""
+        return [], []
+
+    def same(self, text: str, same_query: SameQuery) -> bool:
+        """Whether this text of a file has what this one has, but for queries which are the same by `same_query`."""
+        return same_query(self.source.text, text)
+
+
+class PlacedSpelling(NamedTuple):
+    """How a file spells a query that it has as it is, or that is not written: where it begins and ends."""
+
+    start: int
+    end: int
+
+    def room(self, width: int) -> int:
+        return sys.maxsize
+
+    def edit(self, text: str) -> Edit:
+        return Edit(self.start, self.end, text)
+
+
+class GivenQuery(Document):
+    """A text that is one query: an argument, standard input, or a document of an editor."""
+
+    def __init__(self, source: Source, checker: Optional[QueryChecker] = None) -> None:
+        super().__init__(source, checker)
+        length = len(source.text)
+        self.queries = [Query(source.text, range(length + 1), PlacedSpelling(0, length))]
+
+
+class PlacedFile:
+    """A document whose text is a part of another file, which has each of its characters, and its end, in these places."""
+
+    def __init__(self, document: Document, offsets: Sequence[int]) -> None:
+        self.document = document
+        self._offsets = offsets
+
+    def at(self, offset: int) -> int:
+        return self._offsets[offset]
+
+    def queries(self, kept: str) -> Iterator[Query]:
+        """The queries, which are kept as they are for this reason."""
+        for query in self.document.queries:
+            offsets = [self._offsets[at] for at in query.offsets]
+            # (a rule has its query by where its last quote ends)
+            end = getattr(query.spelling, "end", query.offsets[-1])
+            spelling = PlacedSpelling(offsets[0], self._offsets[end])
+            yield query._replace(offsets=offsets, spelling=spelling, kept=query.kept or kept)
+
+    def faults(self, faults: Iterable[Fault]) -> List[Fault]:
+        return [Fault(self._offsets[it.start], self._offsets[it.end], it.message) for it in faults]

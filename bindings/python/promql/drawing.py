@@ -15,7 +15,7 @@ from typing import List, Optional
 import promql
 
 from .labels import children_of, kind_of, labels_of, nodes_of
-from .visible import visible
+from .terminal import visible
 
 _CHARACTER = 7.8  # the width of a character of the labels
 _KIND_CHARACTER = 6.6

@@ -11,7 +11,7 @@ from typing import Any, Dict, List
 from .checked_queries import NO_BOUND, Budget
 from .files import BoundError, Fault, FileError, Source, nested_too_deeply
 from .quick_yaml import Unclear
-from .yaml_nodes import Node, Token
+from .scalars import Node, Token
 
 # As many characters as a token takes the time of.
 _TOKEN = 8

@@ -14,17 +14,15 @@ from typing import Any, Callable, ContextManager, Iterator, List, Optional, Sequ
 
 import promql
 
-from .checked_queries import Budget, QueryChecker, limited_to
-from .documents import Status, read_document
+from .checked_queries import Budget, Document, QueryChecker, limited_to
+from .documents import Status, Target, read_document, targets_of
 from .files import BLANKS, STDIN, BoundError, FileError, write_file
 from .jobs import Report, add_arguments, as_bytes, bounds_of, work_on
 from .messages import ERROR, KEPT, LAYOUT, REJECTED, RULE, WARNING, Message, in_order, kind_of_skipped, left_out, of_error, placed
 from .options import PEOPLE, PRETTY, STYLES, WIDTH, whole_number
 from .queries import Edit, Query, SameQuery, edited
-from .query_files import Document
-from .targets import Target, targets_of
+from .terminal import visible
 from .token_texts import comments_of
-from .visible import visible
 
 _COMMENT = "it has a comment, which would be lost"
 _NEEDS_LINES = "it has a comment, and has to stay on one line here"
@@ -214,18 +212,23 @@ class _FaultsError(FileError):
         self.messages = [it._replace(status=Status.FAILED) if it.status == Status.FOUND else it for it in messages]
 
 
-def _formatted(document: Document, printer: Printer, changes: List[Tuple[Query, str]], edits: List[Edit]) -> str:
-    """The text of the file with its queries as they are to be."""
-    if not changes:
-        return document.source.text
+def same_as(changes: List[Tuple[Query, str]], printer_of: Callable[[Query], Printer]) -> SameQuery:
+    """Tells whether a query is the same as another one, or is what one of these is to be."""
     queries = {(query.original, text): query for query, text in changes}
 
     def same_query(old: str, new: str) -> bool:
         query = queries.get((old, new.rstrip(BLANKS)))
-        return old == new or query is not None and printer.means(new, query)
+        return old == new or query is not None and printer_of(query).means(new, query)
 
+    return same_query
+
+
+def _formatted(document: Document, printer: Printer, changes: List[Tuple[Query, str]], edits: List[Edit]) -> str:
+    """The text of the file with its queries as they are to be."""
+    if not changes:
+        return document.source.text
     text = edited(document.source.text, edits)
-    if not _reads_as(document, text, same_query):
+    if not _reads_as(document, text, same_as(changes, lambda query: printer)):
         raise FileError(f"{document.source.name}: left as it is: formatted, it would not be read as the same", Status.UNFAITHFUL)
     return text
 

@@ -76,14 +76,17 @@ class ParenForm(TypedDict):
     expr: Form
 
 
-class SubqueryForm(TypedDict):
+class TimesForm(TypedDict):
+    offset: int
+    startOrEnd: Optional[StartOrEnd]
+    timestamp: Optional[int]
+
+
+class SubqueryForm(TimesForm):
     type: Literal["subquery"]
     expr: Form
-    offset: int
     range: int
-    startOrEnd: Optional[StartOrEnd]
     step: Optional[int]
-    timestamp: Optional[int]
 
 
 class NumberForm(TypedDict):
@@ -96,32 +99,25 @@ class StringForm(TypedDict):
     val: str
 
 
-class SelectorGroupsForm(TypedDict, total=False):
+class GroupsForm(TypedDict, total=False):
     or_matchers: List[List[MatcherForm]]
 
 
-class SelectorForm(SelectorGroupsForm):
-    type: Literal["vectorSelector"]
-    matchers: List[MatcherForm]
-    name: Optional[str]
-    offset: int
-    startOrEnd: Optional[StartOrEnd]
-    timestamp: Optional[int]
-
-
-class RangeSelectorGroupsForm(TypedDict, total=False):
-    or_matchers: List[List[MatcherForm]]
+class ModeForm(TypedDict, total=False):
     rangeMode: RangeMode
 
 
-class RangeSelectorForm(RangeSelectorGroupsForm):
+class SelectorForm(TimesForm, GroupsForm):
+    type: Literal["vectorSelector"]
+    matchers: List[MatcherForm]
+    name: Optional[str]
+
+
+class RangeSelectorForm(TimesForm, GroupsForm, ModeForm):
     type: Literal["matrixSelector"]
     matchers: List[MatcherForm]
     name: Optional[str]
-    offset: int
     range: int
-    startOrEnd: Optional[StartOrEnd]
-    timestamp: Optional[int]
 
 
 class CallForm(TypedDict):

@@ -16,7 +16,7 @@ import promql
 
 from .checked_queries import QueryChecker
 from .queries import Edit, PlacedText, edited
-from .token_texts import MATCHER_SIGNS, Token, pattern_operators
+from .token_texts import MATCHER_SIGNS, Token, code_of, pattern_operators
 
 _NAMES = r"[A-Za-z_]\w*"
 # `$x`, `${x}`, `${x:format}`, `${x.field}`, `[[x]]` and `[[x:format]]`.
@@ -265,22 +265,13 @@ def _spans(query: str) -> List[Tuple[int, int]]:
     read = VARIABLE.sub(lambda variable: "z" * len(variable[0]), query)
     found: List[Tuple[int, int]] = []
     run_end = -1
-    for kind, start, end in _tokens(read):
-        if kind == "comment":
-            continue
+    for _, _, start, end in code_of(read):
         is_in_run = _is_in_run(read, start, end)
         if is_in_run and start == run_end:
             start = found.pop()[0]
         run_end = end if is_in_run else -1
         found.append((start, end))
     return found
-
-
-def _tokens(query: str) -> Sequence[promql.Token]:
-    try:
-        return promql.tokens(query)
-    except ValueError:
-        return ()
 
 
 def _is_in_run(query: str, start: int, end: int) -> bool:

@@ -7,7 +7,7 @@ import sys
 from typing import List
 
 from .__main__ import program
-from .targets import is_read
+from .documents import is_read
 
 
 def as_files(words: List[str]) -> List[str]:

@@ -9,17 +9,13 @@ from functools import partial
 from itertools import chain
 from typing import Any, Callable, Iterable, Iterator, List, NamedTuple, Optional, Sequence, Tuple
 
-from . import colors
 from .checked_queries import FileBounds
-from .documents import Skipped, Status
+from .documents import Skipped, Status, Target
 from .files import STDIN, FileError, counted, nested_too_deeply
-from .messages import EMPTY, ERROR, SEVERITIES, SKIPPED, UNREAD, Message, of_error, of_file, of_skipped
+from .messages import EMPTY, ERROR, OUTPUTS, SEVERITIES, SKIPPED, UNREAD, Message, Told, of_error, of_file, of_skipped
 from .options import add_target, whole_number
-from .outputs import OUTPUTS, Told
-from .progress import with_progress
-from .targets import Target
 from .team_settings import settings_read_anew, with_settings
-from .visible import visible
+from .terminal import add_color_argument, painted, visible, wants_colors, with_progress
 
 _MOST_JOBS = 256
 # For so many files one more process is worth its start.
@@ -48,7 +44,7 @@ class Report(NamedTuple):
         for message in self.messages:
             if message.text:
                 shown = visible(message.text, "\t\n")
-                print(colors.painted(shown) if with_colors else shown, file=sys.stderr)
+                print(painted(shown) if with_colors else shown, file=sys.stderr)
         sys.stdout.flush()
         sys.stdout.buffer.write(self.out)
         sys.stdout.buffer.flush()
@@ -87,7 +83,7 @@ def add_arguments(parser: Any, without_file: str = "without one it is read", job
     parser.add_argument("files", nargs="*", metavar="FILE", help=files + without_file)
     parser.add_argument("--dashboard", action="store_true", help="all files are dashboards")
     parser.add_argument("--jobs", type=partial(whole_number, least=1, most=_MOST_JOBS), metavar="N", help=f"so many processes ({jobs})")
-    colors.add_argument(parser)
+    add_color_argument(parser)
     add_target(parser)
     for name, most in FileBounds()._asdict().items():
         parser.add_argument(f"--{name.replace('_', '-')}", type=whole_number, metavar="N", help=f"{_BOUNDS[name]} ({most})")
@@ -137,7 +133,7 @@ def work_on(
     if not targets and (sys.stdin is None or sys.stdin.isatty()):
         arguments.wrong("no FILE is named")
     targets = targets or [Target(STDIN)]
-    with_colors = colors.are_wanted(arguments.color, sys.stderr)
+    with_colors = wants_colors(arguments.color, sys.stderr)
     worst, queries = Status.FINE, 0
     told: List[Told] = []
     with settings_read_anew():

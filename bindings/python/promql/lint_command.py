@@ -6,8 +6,8 @@ import argparse
 import os
 from typing import Any, List, Tuple
 
-from .checked_queries import QueryChecker
-from .documents import Status, read_document
+from .checked_queries import Document, GivenQuery, QueryChecker
+from .documents import Status, Target, read_document, targets_of
 from .files import STDIN, Source, counted, read_source, write_file
 from .jobs import Report, add_arguments, as_bytes, bounds_of, facts_of, work_on
 from .lint.file_findings import FileFinding, FileLinter, fault_of
@@ -15,10 +15,8 @@ from .lint.records import SharedRecords
 from .lint.rule_places import recorded_rules
 from .lint.table import RULES, Selection, help_of, name_of, unknown_words
 from .messages import ERROR, RULE, UNREAD, Message, left_out, listed, placed, region_of, skipped_queries
-from .query_files import Document, GivenQuery
 from .rule_files import RuleFile
-from .targets import Target, targets_of
-from .visible import visible
+from .terminal import visible
 
 
 def add_parser(subparsers: Any) -> None:

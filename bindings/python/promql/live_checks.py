@@ -7,18 +7,17 @@ from functools import lru_cache
 from typing import FrozenSet, Iterator, List, NamedTuple, Sequence, Tuple
 
 from . import tree
+from .checked_queries import Document, take
 from .documents import Status, accepted, recorded_in
 from .files import BoundError, counted
 from .jobs import Report, as_bytes
 from .lint.file_findings import FileLinter
-from .lint.known_looks import take
+from .lint.findings import NAME
 from .lint.table import LIVE, Selection, help_of, name_of
-from .lint.trees import NAME
 from .messages import ERROR, INFO, UNREAD, WARNING, Message, listed, of_server, placed
 from .prometheus_api import ApiError, PrometheusApi
 from .queries import Query
-from .query_files import Document
-from .visible import visible
+from .terminal import visible
 
 NO_METRIC, NO_LABEL, NO_VALUE, NO_SERIES, MANY_SERIES, MANY_SAMPLES, READS = LIVE
 # How long a sample counts as that of now, in milliseconds.

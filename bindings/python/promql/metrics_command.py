@@ -10,13 +10,13 @@ from typing import Any, Dict, FrozenSet, Iterable, Iterator, List, Optional, Set
 import promql
 
 from .check_command import rejections
-from .documents import Status, accepted, read_document, recorded_in
+from .checked_queries import Document
+from .documents import Status, Target, accepted, read_document, recorded_in, targets_of
 from .jobs import Report, add_arguments, as_bytes, bounds_of, work_on
 from .messages import in_order, left_out, of_server, skipped_queries
-from .prometheus_api import ApiError, PrometheusApi, add_server_arguments, api_of
-from .query_files import Document
-from .targets import Target, targets_of
-from .visible import visible
+from .options import add_server_arguments
+from .prometheus_api import ApiError, PrometheusApi, api_of
+from .terminal import visible
 
 # What is used, by its kind: a selector names no metric, and what has variables of Grafana is not known.
 METRICS, SELECTORS, LABELS, VARIABLES = _KINDS = ("metrics", "selectors", "labels", "variables")

@@ -4,10 +4,11 @@ from __future__ import annotations
 
 import argparse
 import sys
-from typing import Any, Iterable, List, NoReturn, Optional, Sequence, Tuple
+from functools import partial
+from typing import Any, Iterable, List, NamedTuple, NoReturn, Optional, Sequence, Tuple
 
 from . import TARGETS, __version__
-from .visible import visible
+from .terminal import visible
 
 PROGRAM = "promql-rules"
 # More digits than any number below 2^64 has.
@@ -15,6 +16,7 @@ _MOST_DIGITS = 20
 MOST = 2**64 - 1
 # The status of wrong arguments.
 _USAGE = 64
+_MOST_SECONDS = 86_400
 # How a query is laid out: for people, with its comments, as `promql format` does, or as `promql pretty` does; and how wide.
 PEOPLE, PRETTY = STYLES = ("people", "pretty")
 WIDTH = 100
@@ -66,3 +68,40 @@ def add_target(parser: Any) -> None:
     """The option that names what reads the queries. `promql.set_target` is told of it before the command runs."""
     names = tuple(TARGETS)
     parser.add_argument("--target", choices=names, default=names[0], help=f"what reads the queries, with what it reads otherwise ({names[0]})")
+
+
+# ---- a server
+
+
+class ApiBounds(NamedTuple):
+    """What is asked of a server at most: requests, the seconds of one and of all together, and the bytes of an answer."""
+
+    max_requests: int = 2_000
+    request_timeout: float = 10
+    server_timeout: float = 120
+    max_answer: int = 4_194_304
+
+
+# The options that say who asks a server, and which certificates are right, in the words of the proxy (docs/guide/proxy.md).
+ACCESS = {
+    "credentials": ("FILE", "the file with NAME:PASSWORD for it, or with a token"),
+    "user": ("NAME", "the user that it is asked as"),
+    "password-file": ("FILE", "the file with the password of this user"),
+    "bearer-file": ("FILE", "the file with a token, in place of a user"),
+    "ca-file": ("FILE", "the file with the authorities for its certificate, in place of the system's"),
+    "cert-file": ("FILE", "the file with the certificate for who asks it"),
+    "key-file": ("FILE", "the file with the key of this certificate"),
+}
+PAIRS = (("user", "password-file"), ("cert-file", "key-file"))
+
+
+def add_server_arguments(parser: Any, use: str) -> None:
+    """The options that name a server, and what is asked of it."""
+    seconds, most = partial(whole_number, least=1, most=_MOST_SECONDS), ApiBounds()
+    parser.add_argument("--prometheus", metavar="URL", help=f"the Prometheus {use}")
+    for name, (metavar, text) in ACCESS.items():
+        parser.add_argument(f"--prometheus-{name}", metavar=metavar, help=text)
+    parser.add_argument("--max-requests", type=whole_number, default=most[0], metavar="N", help=f"the most requests to it ({most[0]})")
+    parser.add_argument("--request-timeout", type=seconds, default=most[1], metavar="S", help=f"the most seconds of a request ({most[1]})")
+    parser.add_argument("--server-timeout", type=seconds, default=most[2], metavar="S", help=f"the same of all requests ({most[2]})")
+    parser.add_argument("--max-answer", type=whole_number, default=most[3], metavar="N", help=f"the most bytes of an answer ({most[3]})")

@@ -22,7 +22,8 @@ from typing import Any, Dict, List, Tuple
 
 from . import NumberTooWideError, QueryError, canonical, drawing, format, places
 from .options import add_target, whole_number
-from .visible import visible
+from .prometheus_api import TimedReader
+from .terminal import visible
 
 ADDRESS = "127.0.0.1"
 DEFAULT_PORT = 8017
@@ -90,24 +91,6 @@ class _Rejection(Exception):
         self.status = status
 
 
-class _Incoming(io.RawIOBase):
-    """What a socket receives until a time, however slowly it comes."""
-
-    def __init__(self, connection: socket.socket, seconds: float) -> None:
-        self._connection = connection
-        self._end = time.monotonic() + seconds
-
-    def readable(self) -> bool:
-        return True
-
-    def readinto(self, buffer: Any) -> int:
-        left = self._end - time.monotonic()
-        if left <= 0:
-            raise socket.timeout("the request did not come in time")
-        self._connection.settimeout(left)
-        return self._connection.recv_into(buffer)
-
-
 class Handler(BaseHTTPRequestHandler):
     """Responds to one request, which is to come in so many seconds, whole."""
 
@@ -118,7 +101,7 @@ class Handler(BaseHTTPRequestHandler):
     def setup(self) -> None:
         super().setup()
         self.rfile.close()
-        self.rfile = io.BufferedReader(_Incoming(self.connection, self.timeout))
+        self.rfile = io.BufferedReader(TimedReader(self.connection, time.monotonic() + self.timeout))
 
     def do_GET(self) -> None:
         try:

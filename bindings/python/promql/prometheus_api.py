@@ -6,30 +6,21 @@ import argparse
 import base64
 import io
 import json
+import os
 import socket
+import ssl
 import time
-from functools import partial
 from http.client import HTTPConnection, HTTPException, HTTPResponse, HTTPSConnection
 from types import SimpleNamespace
-from typing import Any, Mapping, NamedTuple, Optional, Sequence, Union
+from typing import Any, Dict, Mapping, Optional, Sequence, Union
 from urllib.parse import unquote, urlencode, urlsplit
 
 from .files import FileError, read_source
-from .options import whole_number
-from .visible import visible
+from .options import ACCESS, PAIRS, ApiBounds
+from .terminal import visible
 
 # Parameters that are longer together go into the body of a request; of what a server says so many characters are shown.
 _LONGEST_QUERY, _LONGEST_SAID = 4_000, 200
-_MOST_SECONDS = 86_400
-
-
-class ApiBounds(NamedTuple):
-    """What is asked of a server at most: requests, the seconds of one and of all together, and the bytes of an answer."""
-
-    max_requests: int = 2_000
-    request_timeout: float = 10
-    server_timeout: float = 120
-    max_answer: int = 4_194_304
 
 
 class ApiError(Exception):
@@ -44,7 +35,9 @@ class PrometheusApi:
     """A server at `http://HOST:PORT/PATH`. It is asked directly, by no proxy of the environment, and no redirect is followed. It is told
     who asks by `NAME:PASSWORD`, which may also be in the URL, or by a token."""
 
-    def __init__(self, url: str, bounds: ApiBounds = ApiBounds(), secret: str = "") -> None:
+    def __init__(
+        self, url: str, bounds: ApiBounds = ApiBounds(), secret: str = "", certificates: Optional[ssl.SSLContext] = None
+    ) -> None:
         try:
             parts = urlsplit(url)
             self.host, self._port = parts.hostname or "", parts.port
@@ -53,6 +46,9 @@ class PrometheusApi:
         if not self.host or parts.scheme not in ("http", "https") or parts.query or parts.fragment:
             raise ApiError(f"not the URL of a server, `http://HOST:PORT`: {visible(url.rpartition('@')[2])}")
         self._is_secure, self._path = parts.scheme == "https", parts.path.rstrip("/")
+        if certificates and not self._is_secure:
+            raise ApiError("certificates are for the URL of a server with `https`")
+        self._certificates = certificates
         # As it is shown.
         self.url = visible(f"{parts.scheme}://{parts.netloc.rpartition('@')[2]}{self._path}")
         if parts.username is not None and not secret:
@@ -101,11 +97,13 @@ class PrometheusApi:
         """What the server answers until this time."""
         body = parameters if len(parameters) > _LONGEST_QUERY else None
         headers = {**self._headers, **({"Content-Type": "application/x-www-form-urlencoded"} if body else {})}
-        kind = HTTPSConnection if self._is_secure else HTTPConnection
-        connection = kind(self.host, self._port, timeout=max(end - time.monotonic(), 0.001))
+        left = max(end - time.monotonic(), 0.001)
+        connection = HTTPConnection(self.host, self._port, timeout=left)
+        if self._is_secure:
+            connection = HTTPSConnection(self.host, self._port, timeout=left, context=self._certificates)
         try:
             connection.request("POST" if body else "GET", path if body or not parameters else f"{path}?{parameters}", body, headers)
-            timed: Any = SimpleNamespace(makefile=lambda mode: io.BufferedReader(_TimedReader(connection.sock, end)))
+            timed: Any = SimpleNamespace(makefile=lambda mode: io.BufferedReader(TimedReader(connection.sock, end)))
             response = HTTPResponse(timed)
             response.begin()
             return self._data(response, response.read(self._bounds.max_answer + 1))
@@ -131,7 +129,7 @@ class PrometheusApi:
         return found.get("data")
 
 
-class _TimedReader(io.RawIOBase):
+class TimedReader(io.RawIOBase):
     """Reads from a socket until a time, however slowly bytes come."""
 
     def __init__(self, inner: socket.socket, end: float) -> None:
@@ -143,7 +141,7 @@ class _TimedReader(io.RawIOBase):
     def readinto(self, buffer: Any) -> int:
         left = self._end - time.monotonic()
         if left <= 0:
-            raise socket.timeout
+            raise socket.timeout("too late")
         self._inner.settimeout(left)
         return self._inner.recv_into(buffer)
 
@@ -153,26 +151,63 @@ def _said(text: str) -> str:
     return visible(text[:_LONGEST_SAID]) + "…" * (len(text) > _LONGEST_SAID)
 
 
-def add_server_arguments(parser: Any, use: str) -> None:
-    """The options that name a server, and what is asked of it."""
-    seconds, most = partial(whole_number, least=1, most=_MOST_SECONDS), ApiBounds()
-    parser.add_argument("--prometheus", metavar="URL", help=f"the Prometheus {use}")
-    parser.add_argument("--prometheus-credentials", metavar="FILE", help="the file with NAME:PASSWORD for it, or with a token")
-    parser.add_argument("--max-requests", type=whole_number, default=most[0], metavar="N", help=f"the most requests to it ({most[0]})")
-    parser.add_argument("--request-timeout", type=seconds, default=most[1], metavar="S", help=f"the most seconds of a request ({most[1]})")
-    parser.add_argument("--server-timeout", type=seconds, default=most[2], metavar="S", help=f"the same of all requests ({most[2]})")
-    parser.add_argument("--max-answer", type=whole_number, default=most[3], metavar="N", help=f"the most bytes of an answer ({most[3]})")
-
-
 def api_of(arguments: argparse.Namespace) -> Optional[PrometheusApi]:
     """The server that the options name, if there is one. Where they are wrong, the command ends."""
     try:
         if arguments.prometheus is None:
             return None
-        secret = read_source(arguments.prometheus_credentials).text.rstrip("\r\n") if arguments.prometheus_credentials else ""
-        if not secret.isascii() or not secret.isprintable():
-            raise ApiError(f"{arguments.prometheus_credentials}: not one line of printable characters of ASCII")
-        return PrometheusApi(arguments.prometheus, ApiBounds(*(getattr(arguments, it) for it in ApiBounds._fields)), secret)
+        given = {name: getattr(arguments, f"prometheus_{name.replace('-', '_')}") for name in ACCESS}
+        given = {name: value for name, value in given.items() if value is not None}
+        for one, other in PAIRS:
+            if (one in given) != (other in given):
+                raise ApiError(f"--prometheus-{one} and --prometheus-{other} go together")
+        bounds = ApiBounds(*(getattr(arguments, it) for it in ApiBounds._fields))
+        return PrometheusApi(arguments.prometheus, bounds, _secret_of(given), _certificates_of(given))
     except (ApiError, FileError) as error:
         arguments.wrong(str(error))
     return None
+
+
+def _secret_of(given: Dict[str, str]) -> str:
+    """`NAME:PASSWORD`, a token, or nothing, as these options say."""
+    ways = [name for name in ("credentials", "user", "bearer-file") if name in given]
+    if len(ways) > 1:
+        raise ApiError(f"--prometheus-{ways[0]} and --prometheus-{ways[1]} exclude each other")
+    if "user" in given:
+        user = given["user"]
+        if ":" in user or not user.isascii() or not user.isprintable():
+            raise ApiError("--prometheus-user has other characters than printable ones of ASCII, or a colon")
+        return f"{user}:{_line_of(given['password-file'])}"
+    secret = _line_of(given[ways[0]]) if ways else ""
+    if ways == ["bearer-file"] and (not secret or ":" in secret):
+        raise ApiError(f"{given['bearer-file']}: no token, which has no colon")
+    return secret
+
+
+def _line_of(name: str) -> str:
+    line = read_source(name).text.rstrip("\r\n")
+    if not line.isascii() or not line.isprintable():
+        raise ApiError(f"{name}: not one line of printable characters of ASCII")
+    return line
+
+
+def _certificates_of(given: Dict[str, str]) -> Optional[ssl.SSLContext]:
+    """What checks the certificate of a server, and has that of who asks it, where options name them."""
+    files = [given[name] for name in ("ca-file", "cert-file", "key-file") if name in given]
+    for name in files:
+        if os.path.exists(name) and not os.path.isfile(name):
+            raise ApiError(f"{name}: it is no regular file")
+    texts = [read_source(name).text for name in files]
+    try:
+        if "ca-file" in given and not texts[0]:
+            raise ValueError("an empty text would be those of the system")
+        context = ssl.create_default_context(cadata=texts[0] if "ca-file" in given else None) if files else None
+    except (ssl.SSLError, ValueError) as error:
+        raise ApiError(f"{files[0]}: no certificates in PEM") from error
+    if context and "cert-file" in given:
+        try:
+            # (nobody is asked for the password of a key)
+            context.load_cert_chain(files[-2], files[-1], password="")
+        except (ssl.SSLError, ValueError) as error:
+            raise ApiError(f"{files[-2]} and {files[-1]}: no certificate and its key in PEM, without a password") from error
+    return context

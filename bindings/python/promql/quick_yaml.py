@@ -14,7 +14,7 @@ from typing import Any, Dict, List, Match, Tuple
 
 from .checked_queries import FileBounds
 from .files import BoundError, Source
-from .yaml_nodes import Node, Token
+from .scalars import Node, Token
 
 # What libyaml, which reads YAML 1.1, may take otherwise: the line ends of Unicode, and what is not printed; directives, ends of documents,
 # and a comment at once after the sign of a block.
@@ -155,14 +155,14 @@ class _Composer:
 
     def documents(self, loader: Any) -> List[Node]:
         yaml: Any = importlib.import_module("yaml")
-        steps = {
+        steps: Dict[Any, Any] = {
             yaml.ScalarEvent: self._add_scalar,
             yaml.MappingStartEvent: self._begin,
             yaml.SequenceStartEvent: self._begin,
             yaml.MappingEndEvent: self._end,
             yaml.SequenceEndEvent: self._end,
             yaml.AliasEvent: self._add_alias,
-            yaml.DocumentStartEvent: self._begin_document,
+            yaml.DocumentStartEvent: lambda event: self._anchors.clear(),
         }
         reader = loader(self._text)
         try:
@@ -177,9 +177,6 @@ class _Composer:
         finally:
             reader.dispose()
         return self._roots
-
-    def _begin_document(self, event: Any) -> None:
-        self._anchors = {}
 
     def _add_scalar(self, event: Any) -> None:
         # (`=` is a value of its own in YAML 1.1; a block that is the whole document ends elsewhere)

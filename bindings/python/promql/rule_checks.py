@@ -12,8 +12,7 @@ from typing import Dict, FrozenSet, Iterator, List, Match, Optional, Sequence, S
 from .checked_queries import Budget
 from .files import Fault
 from .go_templates import TemplateError, check_template, size_of
-from .yaml_mappings import Mappings
-from .yaml_nodes import Node
+from .scalars import Mappings, Node
 
 # `query_offset` and `labels` of a group are of later versions than 2.42, `partial_response_strategy` is of Thanos, and what follows it
 # of Mimir and Cortex.

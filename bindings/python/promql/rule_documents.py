@@ -5,9 +5,8 @@ from __future__ import annotations
 from enum import Enum
 from typing import Iterator, List, NamedTuple, Optional, Sequence, Set
 
+from .scalars import Mappings, Node
 from .token_texts import code_of
-from .yaml_mappings import Mappings
-from .yaml_nodes import Node
 
 
 class Kind(Enum):

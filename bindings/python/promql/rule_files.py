@@ -7,23 +7,22 @@ from __future__ import annotations
 
 from array import array
 from functools import partial
+from importlib import import_module
 from itertools import islice
-from typing import Any, Callable, Dict, Iterator, List, Optional, Sequence, Set, Tuple, Union
+from typing import Callable, Dict, Iterator, List, Optional, Sequence, Set, Tuple, Union
 
 from . import limits
-from .checked_queries import NO_BOUND, QueryChecker
-from .dashboards import Dashboard
+from .checked_queries import NO_BOUND, Document, PlacedFile, QueryChecker
 from .exact_yaml import ExactYaml, look_for_reader
 from .files import BoundError, Fault, FileError, Source, counted, nested_too_deeply
 from .queries import Query, SameQuery
-from .query_files import Document, PlacedFile
 from .quick_yaml import QuickYaml, Unclear, quick_yaml
 from .rule_checks import LOOKED_AT, RuleChecks
 from .rule_documents import WITH_QUERIES, Kind, RuleDocument, documents_of, is_board, is_logql, is_surely_of_rules
-from .scalars import Scalar
-from .yaml_mappings import Entry, Mappings
-from .yaml_nodes import Node
+from .scalars import Entry, Mappings, Node, Scalar
 
+# The module of dashboards, which is imported where there are some.
+BOARDS = "promql.dashboards"
 # The parts of a rule file that are in one, by the key; in a list it is None. What is unknown in a document may have groups as well.
 _PARTS = {
     ("document", "tests"): "tests",
@@ -85,7 +84,8 @@ class RuleFile(Document):
         """Reads a file that is a text of this one."""
         file: Document
         try:
-            file = Dashboard(text, None, self.checker) if is_board(name) else RuleFile(text, self.checker, has_texts=False)
+            is_rules = not is_board(name)
+            file = RuleFile(text, self.checker, has_texts=False) if is_rules else import_module(BOARDS).Dashboard(text, None, self.checker)
         except FileError as error:
             at, end = error.span or (0, 0)
             fault = Fault(offsets[at], offsets[end], f"in the text `{name}`: {error.reason}")
@@ -113,7 +113,7 @@ class RuleFile(Document):
 
     def summary(self) -> str:
         parts = self._parts
-        boards = sum(len(it.document.queries) for it in self.texts if isinstance(it.document, Dashboard))
+        boards = sum(len(it.document.queries) for it in self.texts if not isinstance(it.document, RuleFile))
         tests = [counted(parts.tests + boards, "query", "queries")] if parts.tests + boards else []
         return ", ".join(tests if tests and not parts.rules else [counted(parts.rules, "rule", "rules"), *tests])
 
@@ -190,13 +190,15 @@ class _Parts:
         if document.kind is Kind.WRONG:
             self._complain(owner, document.note)
         elif document.kind is Kind.TESTS:
-            self.tests += self._count_in(owner, "tests", "a test", self._count_in_test)
+            query = partial(self._look_at_rule, "a test of a query")
+            self.tests += self._count_in(owner, "tests", "a test", self._counter_in("promql_expr_test", "a query", query))
         elif document.kind is Kind.UNREAD:
             self.unread.append(Fault(owner.start, owner.start, document.note))
         elif document.kind is Kind.TEXT and document.name:
             self._take_text(document.name, owner)
         elif document.kind is not Kind.OBJECT:
-            in_group = self._count_in_grafana_group if document.kind is Kind.GRAFANA else self._count_in_group
+            in_rule: Callable[[Node], int] = partial(self._look_at_rule, "a rule")
+            in_group = self._counter_in("rules", "a rule", self._look_at_grafana_rule if document.kind is Kind.GRAFANA else in_rule)
             is_group = document.key == "rules"
             self.rules += self._once("group", owner, in_group) if is_group else self._count_in(owner, "groups", "a group", in_group)
         found = [node for _, node in islice(reversed(self._found.values()), len(self._found) - count)]
@@ -213,9 +215,6 @@ class _Parts:
             self._complain(text, _UNREAD)
         else:
             self.texts.append((str(name.value), text.value, offsets))
-
-    def _count_in_grafana_group(self, group: Node) -> int:
-        return self._count_in(group, "rules", "a rule", self._look_at_grafana_rule)
 
     def _look_at_grafana_rule(self, rule: Node) -> int:
         """Looks for the queries of an alert rule of Grafana."""
@@ -237,12 +236,6 @@ class _Parts:
             self._left[id(entry[1])] = "it is LogQL"
         return 1
 
-    def _count_in_test(self, test: Node) -> int:
-        return self._count_in(test, "promql_expr_test", "a query", partial(self._look_at_rule, "a test of a query"))
-
-    def _count_in_group(self, group: Node) -> int:
-        return self._count_in(group, "rules", "a rule", partial(self._look_at_rule, "a rule"))
-
     def _look_at_rule(self, name: str, rule: Node) -> int:
         """Looks at a rule, and returns 1 where it has a query."""
         entry = self._entry(rule, "expr")
@@ -254,6 +247,9 @@ class _Parts:
             self._found.setdefault(id(entry[1]), entry)
             return 1
         return 0
+
+    def _counter_in(self, key: str, name: str, count: Callable[[Node], int]) -> Callable[[Node], int]:
+        return lambda owner: self._count_in(owner, key, name, count)
 
     def _count_in(self, owner: Node, key: str, name: str, count: Callable[[Node], int]) -> int:
         """How many rules there are in the list that a mapping has under a key, of mappings that have so many."""
@@ -347,19 +343,16 @@ def _same(old_root: Node, new_root: Node, same_query: SameQuery) -> bool:
     todo, seen = [("document", old_root, new_root)], set()
     while todo:
         part, old, new = todo.pop()
-        if (part, id(old), id(new)) in seen:
-            continue
-        seen.add((part, id(old), id(new)))
-        if part == "expr" and old.kind == new.kind == "scalar":
-            alike = same_query(old.value, new.value) and (old.anchor, old.is_null()) == (new.anchor, new.is_null())
+        if old.kind != new.kind or old.anchor != new.anchor:
+            return False
+        is_scalar = old.kind == "scalar"
+        if is_scalar and part == "expr":
+            alike = same_query(old.value, new.value) and old.is_null() == new.is_null()
         else:
-            alike = _shape(old) == _shape(new)
+            alike = old.tag == new.tag and old.style == new.style and (old.value == new.value if is_scalar else len(old.value) == len(new.value))
         if not alike:
             return False
-        todo += [(name, one, other) for (name, one), (_, other) in zip(_children(part, old), _children(part, new))]
+        if not is_scalar and (part, id(old), id(new)) not in seen:
+            seen.add((part, id(old), id(new)))
+            todo += [(name, one, other) for (name, one), (_, other) in zip(_children(part, old), _children(part, new))]
     return True
-
-
-def _shape(node: Node) -> Tuple[Any, ...]:
-    """What a node has beside the nodes in it."""
-    return (node.kind, node.tag, node.anchor, node.style, node.value if node.is_scalar() else len(node.value))

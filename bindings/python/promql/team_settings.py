@@ -16,11 +16,11 @@ from functools import lru_cache
 from typing import Any, Callable, Dict, Iterator, List, NamedTuple, Tuple
 
 from . import limits, set_limits
-from .checked_queries import FileBounds, forget_verdicts
+from .checked_queries import VERDICTS, FileBounds
+from .documents import Target
 from .files import FileError
 from .messages import SEVERITIES
 from .options import MOST, PEOPLE, STYLES, WIDTH
-from .targets import Target
 
 _NAMES = (".promql.toml", "pyproject.toml")
 # (the readers of TOML take a time that grows with the square of the parts of a key)
@@ -145,7 +145,7 @@ def _limit(bounds: Dict[str, int]) -> None:
     before = limits()
     set_limits(**{**_UNSET, **bounds})
     if limits() != before:
-        forget_verdicts()
+        VERDICTS.forget()
 
 
 @lru_cache(maxsize=None)

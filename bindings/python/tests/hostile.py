@@ -32,12 +32,15 @@ class Server(socketserver.ThreadingTCPServer):
 
 
 @contextmanager
-def answering(answer):
-    """Serves on a free port: `answer` is called with a file to write to, the path and the parameters; or it is what is written."""
+def answering(answer, certificates=None):
+    """Serves on a free port: `answer` is called with a file to write to, the path and the parameters; or it is what is written. With
+    certificates it serves `https`."""
     server = Server(("127.0.0.1", 0), _Handler)
+    if certificates:
+        server.socket = certificates.wrap_socket(server.socket, server_side=True)
     server.asked = []
     server.answer = answer if callable(answer) else lambda file, path, asked: file.write(answer)
-    server.url = f"http://127.0.0.1:{server.server_address[1]}"
+    server.url = f"http{'s' * bool(certificates)}://127.0.0.1:{server.server_address[1]}"
     thread = threading.Thread(target=server.serve_forever, kwargs={"poll_interval": 0.02})
     thread.start()
     try:

@@ -13,9 +13,8 @@ from dear_queries import DEAR_QUERIES
 from promql import checked_queries
 from promql.checked_queries import Budget, FileBounds, QueryChecker, pattern_size
 from promql.dashboards import Dashboard
-from promql.files import Fault, Source
-from promql.line_index import LineIndex
-from promql.lint import fix, fixes, known_looks, lint
+from promql.files import Fault, LineIndex, Source
+from promql.lint import file_findings, fix, fixes, lint
 from promql.lint.file_findings import MOST_FINDINGS
 from promql.lsp.rules import problems_of
 from promql.rule_files import RuleFile
@@ -101,7 +100,7 @@ class Patterns(unittest.TestCase):
         with mock.patch.object(checked_queries, "_MOST_KEPT", 10_000):
             for number in range(100):
                 QueryChecker.error(f"up > {number}")
-        self.assertLessEqual(len(checked_queries._VERDICTS._known), 11)
+        self.assertLessEqual(len(checked_queries.VERDICTS), 11)
 
     def test_explanations(self):
         """What was expected is said as long as it is not too dear: each time that a query is read for it counts."""
@@ -148,21 +147,21 @@ class Calls(unittest.TestCase):
 
     def test_places(self):
         """Places are asked for where there is a finding alone."""
-        for name in ("places", "parts", "tokens"):
+        for name in ("places", "parts", "_tokens"):
             self.assertEqual(self.count(name, lint, 'sum by (job) (rate(up_total{job="a",b=~"c.*d"}[5m])) > 0.5'), 0, name)
         self.assertEqual(self.count("places", lint, 'up{a=~"b",c=~"d"}'), 1)
 
     def test_logql(self):
         """Only what may be LogQL is split into tokens."""
         text = RULE + "".join(f"  - {{record: a, expr: 'up{{a=\"{number}\"}} + b'}}\n" for number in range(9))
-        self.assertEqual(self.count("tokens", RuleFile, Source("a.yml", text, "")), 0)
+        self.assertEqual(self.count("_tokens", RuleFile, Source("a.yml", text, "")), 0)
 
     def test_variables(self):
         """A query with variables is split into tokens once, however many readings are tried."""
         board = json.dumps({"targets": [{"expr": "(a + $x $y $z) + once_alone"}]})
         checker = QueryChecker()
         with mock.patch.object(checker, "error", wraps=checker.error) as error:
-            tokens = self.count("tokens", Dashboard, Source("a.json", board, ""), None, checker)
+            tokens = self.count("_tokens", Dashboard, Source("a.json", board, ""), None, checker)
         self.assertGreater(error.call_count, 20)
         self.assertEqual(tokens, 1)
 
@@ -301,11 +300,11 @@ class LargeFiles(unittest.TestCase):
         """A query counts by its tokens but those of punctuation, and by four more; one that was looked at in the run counts nothing."""
         text = RULE + "".join(f"  - {{record: a, expr: (a{number})}}\n" for number in range(4)) + "  - {record: b, expr: (a0)}\n"
         for status, count in ((2, 17), (1, 24)):
-            with mock.patch.object(known_looks.LOOKS, "_known", {}):
+            with mock.patch.object(file_findings.LOOKS, "_known", checked_queries.Store()):
                 ran = self.ran("a.yml", text, "lint", f"--max-lint-tokens={count}")
             self.assertEqual((ran.status, ran.out.count(" P601: ")), (status, 5 if status == 1 else 2))
             self.assertEqual(":6:23: not looked at from here on: the queries of the file have more than 17 tokens" in ran.err, status == 2)
-        with mock.patch.object(known_looks.LOOKS, "_known", {}):
+        with mock.patch.object(file_findings.LOOKS, "_known", checked_queries.Store()):
             ran = self.ran("a.yml", text, "lint", "--fix", "--max-lint-tokens=30")
         # (each is looked at twice for its fix, as it is and as it is changed)
         self.assertEqual((ran.status, ran.out.count(" P601: ")), (1, 3))
@@ -317,17 +316,17 @@ class LargeFiles(unittest.TestCase):
         text = RULE + "".join(f"  - {{record: a, expr: 'b{number} # a'}}\n" for number in range(9)) * 2
         said = ":1:1: not looked for: all rules in a circle, of which the queries have more than 40 tokens (--max-lint-tokens)"
         for count, is_told in ((40, True), (54, False)):
-            with mock.patch.object(known_looks.LOOKS, "_known", {}):
+            with mock.patch.object(file_findings.LOOKS, "_known", checked_queries.Store()):
                 self.assertEqual(said in self.ran("a.yml", text, "lint", f"--max-lint-tokens={count}").err, is_told)
         text = RULE + "".join(f"  - {{record: a, expr: '{'+'.join(['(a)'] * 400)}+{number}'}}\n" for number in range(600))
-        with mock.patch.object(known_looks.LOOKS, "_known", {}):
+        with mock.patch.object(file_findings.LOOKS, "_known", checked_queries.Store()):
             ran = self.ran("a.yml", text, "lint")
         self.assertEqual((ran.status, "--max-lint-tokens" in ran.err), (2, True))
 
     def test_changed(self):
         """Long parts that change are not compared where there are many of them."""
         text = RULE + "".join(f"  - {{record: b, expr: {'+'.join(['(a)'] * 230)}+{number}}}\n" for number in range(8))
-        with mock.patch.object(known_looks.LOOKS, "_known", {}):
+        with mock.patch.object(file_findings.LOOKS, "_known", checked_queries.Store()):
             ran = self.ran("a.yml", text, "lint", "--fix")
         self.assertEqual((ran.status, ran.out), (0, ran.out.partition(": ")[0] + ": 8 rules, 8 queries fixed, no findings\n"))
 

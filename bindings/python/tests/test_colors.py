@@ -10,7 +10,7 @@ from pathlib import Path
 from unittest import mock
 
 from command_line import run
-from promql import colors
+from promql import terminal
 
 FILES = Path(__file__).resolve().parent / "files"
 BOARD = b'{"panels": [{"targets": [{"expr": "rate(foo)\\u001b"}]}]}'
@@ -28,30 +28,30 @@ class Messages(unittest.TestCase):
             "\x1b[1ma.yml:5:54:\x1b[0m wrong\n    expr: b:1:2: c\n    \x1b[1;32m^~~\x1b[0m\n"
             "\x1b[1ma:b.yml:1:1:\x1b[0m \x1b[35mwarning: \x1b[0md: e\nno place\n"
         )
-        self.assertEqual(colors.painted(message), wanted)
-        self.assertEqual(colors.painted(""), "")
+        self.assertEqual(terminal.painted(message), wanted)
+        self.assertEqual(terminal.painted(""), "")
 
     def test_when(self):
-        terminal, file = mock.Mock(isatty=lambda: True), io.StringIO()
+        screen, file = mock.Mock(isatty=lambda: True), io.StringIO()
         for environment, stream, wanted in (
-            ({}, terminal, True),
+            ({}, screen, True),
             ({}, file, False),
-            ({"NO_COLOR": "1"}, terminal, False),
-            ({"NO_COLOR": ""}, terminal, True),
-            ({"TERM": "dumb"}, terminal, False),
+            ({"NO_COLOR": "1"}, screen, False),
+            ({"NO_COLOR": ""}, screen, True),
+            ({"TERM": "dumb"}, screen, False),
         ):
             with mock.patch.dict(os.environ, environment, clear=True):
-                self.assertEqual(colors.are_wanted("auto", stream), wanted, environment)
-                self.assertTrue(colors.are_wanted("always", stream))
-                self.assertFalse(colors.are_wanted("never", stream))
+                self.assertEqual(terminal.wants_colors("auto", stream), wanted, environment)
+                self.assertTrue(terminal.wants_colors("always", stream))
+                self.assertFalse(terminal.wants_colors("never", stream))
 
     def test_check(self):
         for color in "auto", "never":
             self.assertEqual(run("check", "--dashboard", "--color", color, "-", stdin=BOARD).err, PLAIN)
         ran = run("check", "--dashboard", "--color", "always", "-", stdin=BOARD)
-        self.assertEqual((ran.status, ran.err), (4, colors.painted(PLAIN)))
+        self.assertEqual((ran.status, ran.err), (4, terminal.painted(PLAIN)))
         self.assertNotEqual(ran.err, PLAIN)
-        self.assertEqual(run("format", "--dashboard", "--color=always", "-", stdin=BOARD).err, colors.painted(PLAIN))
+        self.assertEqual(run("format", "--dashboard", "--color=always", "-", stdin=BOARD).err, terminal.painted(PLAIN))
         self.assertEqual(run("check", "--color", "sometimes", "-").status, 64)
 
     def test_terminal(self):
@@ -62,7 +62,7 @@ class Messages(unittest.TestCase):
         os.close(theirs)
         said = os.read(ours, 4096).decode()
         os.close(ours)
-        self.assertEqual(said.replace("\r\n", "\n"), colors.painted(PLAIN))
+        self.assertEqual(said.replace("\r\n", "\n"), terminal.painted(PLAIN))
 
 
 if __name__ == "__main__":

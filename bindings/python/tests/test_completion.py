@@ -18,7 +18,7 @@ COMPLETED = (
     (("format", "a.yml", "--color"), "", ["always", "auto", "never"]),
     (("completion",), "b", ["bash"]),
     (("lint", "a.yml", "--output"), "", ["github", "json", "junit", "sarif", "text"]),
-    (("check",), "--prom", ["--prometheus", "--prometheus-credentials"]),
+    (("check",), "--prometheus-p", ["--prometheus-password-file"]),
     (("metrics", "a.yml", "--output"), "", ["json", "text"]),
     (("serve",), "--p", ["--port"]),
 )

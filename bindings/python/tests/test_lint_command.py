@@ -346,6 +346,10 @@ class Files(Folder):
         self.assertEqual(self.codes(self.rules(one, two)), [("P701", 5)])
         self.assertEqual(self.codes(self.rules(one, f"{two}, labels: {{d: e}}")), [])
         self.assertEqual(self.codes(self.rules(one, "record: a, expr: sum by (b) (d)")), [])
+        # (each is told by its own metric, though both have the same query)
+        path = self.rules(*(f"record: {name}, expr: up" for name in "aabb"))
+        said = run("lint", path).out
+        self.assertEqual([said.count(f"records `{name}` with the same labels") for name in "ab"], [1, 1], said)
 
     def test_templates(self):
         for label, is_found in (

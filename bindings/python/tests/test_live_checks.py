@@ -1,7 +1,12 @@
 """Tests of `promql-rules check --prometheus`: what is asked of a server, and what is said of its answers, right and wrong ones."""
 
 import json
+import os
+import shutil
+import ssl
+import subprocess
 import time
+import unittest
 import xml.etree.ElementTree as ElementTree
 
 from command_line import run
@@ -289,3 +294,87 @@ class Bounds(Asked):
             self.assertEqual(ran.status, 64)
             self.assertIn(text, ran.err)
             self.assertNotIn("two", ran.err)
+
+    def test_login(self):
+        """A user with a password, or a token, from files of their own, in the words of the proxy."""
+        word, token, none = self.file("a:word\n", "word"), self.file("abc.de-f\n", "token"), self.folder / "none"
+        for options, wanted in (
+            (("--prometheus-user", "me", "--prometheus-password-file", word), "Basic bWU6YTp3b3Jk"),
+            (("--prometheus-bearer-file", token), "Bearer abc.de-f"),
+        ):
+            with answering(store) as server:
+                self.assertEqual(run("check", "--prometheus", server.url, *options, self.file(rules("up"))).status, 0)
+            self.assertEqual(server.asked[0][3].get("authorization"), wanted)
+        for options, text in (
+            (("--prometheus-user", "me"), "--prometheus-user and --prometheus-password-file go together"),
+            (("--prometheus-password-file", word), "--prometheus-user and --prometheus-password-file go together"),
+            (("--prometheus-user", "m:e", "--prometheus-password-file", word), "or a colon"),
+            (("--prometheus-user", "me", "--prometheus-password-file", none), "none: No such file or directory"),
+            (("--prometheus-bearer-file", none), "none: No such file or directory"),
+            (("--prometheus-bearer-file", word), "word: no token, which has no colon"),
+            (("--prometheus-bearer-file", self.file("", "empty")), "empty: no token"),
+            (("--prometheus-bearer-file", token, "--prometheus-credentials", word), "--prometheus-credentials and --prometheus-bearer-file exclude"),
+        ):
+            self.assert_wrong("http://127.0.0.1:1", options, text)
+
+    def assert_wrong(self, url, options, text):
+        ran = run("check", "--prometheus", url, *options, self.file(rules("up")))
+        self.assertEqual(ran.status, 64, ran)
+        self.assertIn(text, ran.err)
+        self.assertNotIn("word\n", ran.err)
+
+
+@unittest.skipUnless(shutil.which("openssl"), "there is no openssl")
+class Certificates(Folder):
+    """A server of `https`, which asks for a certificate, with certificates that are made for it."""
+
+    def setUp(self):
+        super().setUp()
+        self.made("req", "-x509", "-newkey", "rsa:2048", "-nodes", "-keyout", "ca.key", "-out", "ca.crt", "-subj", "/CN=ca", "-days", "2")
+        for name, extension in (("server", "subjectAltName=IP:127.0.0.1"), ("client", "extendedKeyUsage=clientAuth")):
+            self.file(extension, f"{name}.ext")
+            self.made("req", "-newkey", "rsa:2048", "-nodes", "-keyout", f"{name}.key", "-out", f"{name}.csr", "-subj", f"/CN={name}")
+            signed = ("-CA", "ca.crt", "-CAkey", "ca.key", "-CAcreateserial", "-days", "2", "-extfile", f"{name}.ext")
+            self.made("x509", "-req", "-in", f"{name}.csr", *signed, "-out", f"{name}.crt")
+
+    def made(self, *words):
+        subprocess.run(["openssl", *words], cwd=self.folder, check=True, stdout=subprocess.PIPE, stderr=subprocess.PIPE, timeout=60)
+
+    def check(self, *options, asks=True):
+        """What a check of a server says that may ask for a certificate."""
+        context = ssl.SSLContext(ssl.PROTOCOL_TLS_SERVER)
+        context.load_cert_chain(self.folder / "server.crt", self.folder / "server.key")
+        context.load_verify_locations(self.folder / "ca.crt")
+        context.verify_mode = ssl.CERT_REQUIRED if asks else ssl.CERT_NONE
+        options = [self.folder / word if "." in word else f"--prometheus-{word}" for word in options]
+        with answering(store, context) as server:
+            return run("check", "--prometheus", server.url, *options, self.file(rules("up")))
+
+    def test_certificates(self):
+        whole = ("ca-file", "ca.crt", "cert-file", "client.crt", "key-file", "client.key")
+        self.assertEqual(self.check(*whole).status, 0)
+        self.assertEqual(self.check(*whole[:2], asks=False).status, 0)
+        ran = self.check(*whole[2:], asks=False)
+        self.assertEqual((ran.status, "certificate verify failed" in ran.err), (2, True), ran)
+        ran = self.check(*whole[:2])
+        self.assertEqual((ran.status, "1 of 1 query not looked at there" in ran.err), (2, True), ran)
+
+    def test_wrong_files(self):
+        os.mkfifo(self.folder / "a.fifo")
+        for options, text in (
+            (("ca-file", "none.crt"), "none.crt: No such file or directory"),
+            (("ca-file", "ca.key"), "ca.key: no certificates in PEM"),
+            (("ca-file", "a.fifo"), "a.fifo: it is no regular file"),
+            (("cert-file", "client.crt"), "--prometheus-cert-file and --prometheus-key-file go together"),
+            (("cert-file", "client.crt", "key-file", "none.key"), "none.key: No such file or directory"),
+            (("cert-file", "client.crt", "key-file", "server.key"), "no certificate and its key in PEM"),
+        ):
+            ran = self.check(*options, asks=False)
+            self.assertEqual((ran.status, text in ran.err), (64, True), ran)
+        self.file("", "empty.crt")
+        self.assertIn("empty.crt: no certificates in PEM", self.check("ca-file", "empty.crt", asks=False).err)
+        self.made("rsa", "-in", "client.key", "-aes128", "-passout", "pass:abcd", "-out", "locked.key")
+        ran = self.check("ca-file", "ca.crt", "cert-file", "client.crt", "key-file", "locked.key")
+        self.assertEqual((ran.status, "without a password" in ran.err), (64, True), ran)
+        ran = run("check", "--prometheus", "http://127.0.0.1:1", "--prometheus-ca-file", self.folder / "ca.crt", self.file(rules("up")))
+        self.assertEqual((ran.status, "certificates are for the URL of a server with `https`" in ran.err), (64, True), ran)

@@ -7,9 +7,8 @@ from pathlib import Path
 import promql
 from promql.labels import nodes_of
 from promql.lsp.hover import hover
-from promql.lsp.names import names_of
-from promql.lsp.selection import spans_around
-from promql.lsp.selectors import selectors_of
+from promql.lsp.names import names_of, selectors_of
+from promql.lsp.context import spans_around
 from promql.token_texts import code_of, tokens_of
 
 ROOT = Path(__file__).resolve().parents[3]

@@ -15,7 +15,7 @@ from unittest import mock
 
 import promql
 from command_line import run
-from promql import progress
+from promql import terminal as people
 from promql.__main__ import COMMANDS, main
 
 try:
@@ -238,7 +238,7 @@ class AtATerminal(Folder):
         self.addCleanup(os.close, ours)
         with open(theirs, "w", encoding="utf-8") as stream, mock.patch.dict(os.environ, {"TERM": terminal, "COLUMNS": "40"}):
             made = (time.sleep(seconds) or name.upper() for name in names)
-            found = list(progress.with_progress(names, made, stream))
+            found = list(people.with_progress(names, made, stream))
             stream.write("$")
         self.assertEqual(found, [(name, name.upper()) for name in names])
         said = b""
@@ -247,7 +247,7 @@ class AtATerminal(Folder):
         return said[:-1].decode()
 
     def test_late(self):
-        with mock.patch.object(progress, "_PATIENCE", 0.2):
+        with mock.patch.object(people, "_PATIENCE", 0.2):
             self.assertEqual(self.shown("a", "b", seconds=0.5), "1 of 2: a\r\x1b[K2 of 2: b\r\x1b[K")
             self.assertEqual(self.shown("c\x1b" * 40, seconds=0.5), ("1 of 1: " + "c\\x1b" * 40)[:39] + "\r\x1b[K")
             self.assertEqual(self.shown("a", seconds=0.5, terminal="dumb"), "")
@@ -256,16 +256,16 @@ class AtATerminal(Folder):
         self.assertEqual(self.shown("a", "b", seconds=0.01), "")
 
     def test_no_terminal(self):
-        with tempfile.TemporaryFile("w") as stream, mock.patch.object(progress, "_PATIENCE", 0):
-            self.assertEqual(list(progress.with_progress("ab", iter([1, 2]), stream)), [("a", 1), ("b", 2)])
+        with tempfile.TemporaryFile("w") as stream, mock.patch.object(people, "_PATIENCE", 0):
+            self.assertEqual(list(people.with_progress("ab", iter([1, 2]), stream)), [("a", 1), ("b", 2)])
             self.assertEqual(stream.tell(), 0)
 
     def test_command(self):
         """By a process: the line is gone before the messages come, and each of several processes is waited for."""
         wrong = self.file(WRONG)
         script = (
-            "import sys, time; from promql import check_command, progress; from promql.__main__ import main\n"
-            "read, progress._PATIENCE = check_command.read_document, 0.1\n"
+            "import sys, time; from promql import check_command, terminal; from promql.__main__ import main\n"
+            "read, terminal._PATIENCE = check_command.read_document, 0.1\n"
             "check_command.read_document = lambda *given, **named: time.sleep(0.6) or read(*given, **named)\n"
             "sys.exit(main(sys.argv[1:]))"
         )

@@ -18,7 +18,7 @@ from unittest import mock
 
 import promql
 from promql import drawing, page
-from promql.visible import visible
+from promql.terminal import visible
 from serving import enter, served
 from test_promql import BROKEN, broken
 

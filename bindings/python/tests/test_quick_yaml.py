@@ -12,12 +12,11 @@ from unittest import mock
 import test_rule_files
 from command_line import run
 from promql import jobs, quick_yaml, rule_files
-from promql.documents import Status
+from promql.documents import Status, Target
 from promql.exact_yaml import ExactYaml
 from promql.files import FileError, Source
 from promql.jobs import Report, work_on
 from promql.quick_yaml import QuickYaml, Unclear
-from promql.targets import Target
 from test_rule_files import FILES, NAMES, PLACES, RULE, Folder, file_of
 from written import rule_file
 

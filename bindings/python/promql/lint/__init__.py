@@ -12,7 +12,7 @@ from typing import Callable, Iterable, Iterator, List, Optional
 
 import promql
 
-from . import alert_rules, argument_rules, counter_rules, label_rules, matcher_rules, operator_rules, record_rules, style_rules
+from . import alert_rules, counter_rules, label_rules, matcher_rules, operator_rules, style_rules
 from .comments import Ignored, ignored_in
 from .findings import Finding, Fix, Severity, Span, TextEdit, Tree
 from .fixes import FixChecker, all_fixed
@@ -35,7 +35,7 @@ __all__ = [
 ]
 
 # The modules whose functions are the rules of the table.
-_MODULES = (matcher_rules, counter_rules, operator_rules, argument_rules, label_rules, alert_rules, style_rules, record_rules)
+_MODULES = (matcher_rules, counter_rules, operator_rules, label_rules, alert_rules, style_rules)
 _UNCOMPARED = "its patterns and values are too large together to be compared: P108 and P109 are not looked for in patterns"
 _LONGEST = 500
 # Functions that are gone, and what is there for them.
@@ -47,11 +47,7 @@ _GONE = {
 
 
 def lint(
-    query: str,
-    *,
-    select: Iterable[str] = (),
-    ignore: Iterable[str] = (),
-    context: Optional[RuleContext] = None,
+    query: str, *, select: Iterable[str] = (), ignore: Iterable[str] = (), context: Optional[RuleContext] = None
 ) -> List[Finding]:
     """What is found in a query, in the order of the places. Codes are selected and left out by the texts that they begin with.
 
@@ -62,11 +58,7 @@ def lint(
 
 
 def fix(
-    query: str,
-    *,
-    select: Iterable[str] = (),
-    ignore: Iterable[str] = (),
-    context: Optional[RuleContext] = None,
+    query: str, *, select: Iterable[str] = (), ignore: Iterable[str] = (), context: Optional[RuleContext] = None
 ) -> str:
     """The query with the fixes of all findings that have one. Each was checked: the changed query is read again, and has the tree that the
     fix intends, and the comments."""
@@ -121,10 +113,10 @@ def found_in(
     """The same, rule by rule, with fixes that are not checked; without what comments of the query silence, or with other codes left out."""
     subject = Subject(query, tree, context, is_written)
     ignored = ignored_in(query) if ignored is None else ignored
-    if selection.has(UNCOMPARED) and not ignored.has(UNCOMPARED) and not subject.compares_patterns:
+    if selection.has(UNCOMPARED) and UNCOMPARED not in ignored and not subject.compares_patterns:
         yield Finding(subject.whole, UNCOMPARED, _UNCOMPARED, Severity.INFO)
     for rule in selection.rules(subject.features):
-        if not ignored.has(rule.code):
+        if rule.code not in ignored:
             for remark in rule.look(subject):
                 # (a text of the query may make each of many messages long)
                 message = remark.message[:_LONGEST] + "…" * (len(remark.message) > _LONGEST)

@@ -1,14 +1,13 @@
-"""Rules about alerts: P501 to P505."""
+"""Rules about the rules of a file: alerts, P501 to P505, and the metrics that rules record, P701 to P703."""
 
 from __future__ import annotations
 
 from typing import Iterator
 
-from .argument_rules import why_rejected
-from .findings import Remark, Severity, Tree
+from .findings import Remark, Severity, Tree, inner, is_comparison
+from .operator_rules import why_rejected
 from .subject import Subject
 from .table import rule
-from .trees import inner, is_comparison
 
 
 @rule("P501", "alert-without-condition", Severity.WARNING, needs="alert")
@@ -79,3 +78,33 @@ def has_condition(node: Tree) -> bool:
             return True
         return name not in ("scalar", "vector") and any(map(has_condition, node["args"]))
     return "expr" in node and has_condition(node["expr"])
+
+
+@rule("P701", "recorded-twice", Severity.ERROR)
+def recorded_twice(subject: Subject) -> Iterator[Remark]:
+    """A rule that records a series that another rule of the file records, too."""
+    record, is_same, is_one_series = subject.context.twice(subject.text) or ("", False, False)
+    if is_same or is_one_series and subject.labels.of(subject.tree).only == frozenset():
+        yield Remark(subject.whole, f"another rule of {subject.context.records.where} records `{record}` with the same labels")
+
+
+@rule("P702", "recorded-in-circle", Severity.WARNING)
+def recorded_in_circle(subject: Subject) -> Iterator[Remark]:
+    """A rule that reads what is recorded from its own metric, without saying which earlier time it means."""
+    names = set(subject.context.circle)
+    for node in subject.of_type("vectorSelector") if names else ():
+        name = subject.metric(node)
+        if name in names and not node["offset"]:
+            names.remove(name)
+            message = f"`{name}` is recorded from `{subject.context.record}` itself, so this reads what an earlier evaluation left"
+            yield Remark(subject.span(node), message)
+
+
+@rule("P703", "not-recorded", Severity.WARNING, needs="alert")
+def not_recorded(subject: Subject) -> Iterator[Remark]:
+    """An alert on a metric that no rule of the files records, while its name says so."""
+    for node in subject.selectors if subject.context.alert else ():
+        name = subject.metric(node)
+        message = subject.context.records.why_not(name) if name else ""
+        if message:
+            yield Remark(subject.head(node), message)

@@ -1,24 +1,20 @@
-"""Comments that silence findings: `# promql: ignore P101, P2`, and `# promql: ignore-file P101` for a whole file."""
+"""Comments that silence findings: `# promql: ignore P101, P2`, and `# promql: ignore-file P101` for a whole file; and which of them silence
+none."""
 
 from __future__ import annotations
 
 import re
+from bisect import bisect_left
 from functools import lru_cache
-from typing import FrozenSet, Iterable, List, NamedTuple, Tuple
+from typing import FrozenSet, Iterable, List, NamedTuple, Set, Tuple
 
+from ..files import Source
 from ..token_texts import tokens_of
 from .table import is_meant, known_codes
 
 _COMMENT = re.compile(r"#\s*promql:\s*ignore(-file)?(?![\w-])[ \t]*([\w, \t]*)")
-
-
-class Ignored(NamedTuple):
-    """The codes that are silenced."""
-
-    codes: FrozenSet[str] = frozenset()
-
-    def has(self, code: str) -> bool:
-        return code in self.codes
+# The codes that are silenced.
+Ignored = FrozenSet[str]
 
 
 class Silenced(NamedTuple):
@@ -32,7 +28,7 @@ class Silenced(NamedTuple):
 
 def ignored_by(words: Iterable[str]) -> Ignored:
     """What words of comments silence: codes, and what these begin with."""
-    return Ignored(frozenset(code for word in set(words) for code in codes_of(word)))
+    return frozenset(code for word in set(words) for code in codes_of(word))
 
 
 @lru_cache(maxsize=1024)
@@ -70,3 +66,80 @@ def silenced_by(line: str) -> List[Silenced]:
             end = comment.start(2) + word.end()
         found.append(Silenced(comment.start(), end, bool(comment[1]), tuple(words) or ("all",)))
     return found
+
+
+_LINE = re.compile(r"[^\r\n]*(?:\r\n|\r|\n|\Z)")
+
+
+class Comment:
+    """A comment, `text[start:end]` of a file, and the words that it has for codes."""
+
+    def __init__(self, start: int, end: int, words: Tuple[str, ...]) -> None:
+        self.start = start
+        self.end = end
+        self.words = words
+        # Whether it silences a finding.
+        self.is_used = False
+
+    def silences(self, codes: Set[str]) -> bool:
+        return any(not codes.isdisjoint(codes_of(word)) for word in self.words)
+
+
+class Silences:
+    """The comments of a YAML file."""
+
+    def __init__(self, source: Source) -> None:
+        self._lines = source.lines
+        self._of_file: List[Comment] = []
+        # The codes of all findings.
+        self._found: Set[str] = set()
+        # Where the lines begin that comments are about, in their order, and the comments. One that is above a rule is about two lines.
+        self._abouts: List[int] = []
+        self._comments: List[Comment] = []
+        if "promql:" in source.text:
+            self._read(source.text)
+        order = sorted(range(len(self._abouts)), key=self._abouts.__getitem__)
+        self._codes_of_file = ignored_by(word for comment in self._of_file for word in comment.words)
+        self._abouts, self._comments = [self._abouts[at] for at in order], [self._comments[at] for at in order]
+
+    def _read(self, text: str) -> None:
+        waiting: List[Comment] = []
+        for line in _LINE.finditer(text):
+            bare = line[0].strip()
+            is_comment = bare.startswith("#")
+            comments: List[Comment] = []
+            for silenced in silenced_by(line[0]) if "promql:" in line[0] else ():
+                comment = Comment(line.start() + silenced.start, line.start() + silenced.end, silenced.words)
+                (self._of_file if silenced.is_of_file else comments).append(comment)
+            if is_comment:
+                # (in a block of YAML this may be a comment of the query, which is about the query)
+                waiting += comments
+                self._put(line.start(), comments)
+            elif bare:
+                self._put(line.start(), waiting + comments)
+                waiting = []
+
+    def _put(self, about: int, comments: List[Comment]) -> None:
+        """Keeps comments about the line that begins there."""
+        self._abouts += [about] * len(comments)
+        self._comments += comments
+
+    def between(self, start: int, end: int) -> Ignored:
+        """What is silenced in the lines of this part of the file."""
+        of_lines = ignored_by(word for comment in self._about(start, end) for word in comment.words)
+        return of_lines | self._codes_of_file
+
+    def use(self, start: int, end: int, codes: Set[str]) -> None:
+        """Keeps in mind that there are findings of these codes in this part of the file, which comments may silence."""
+        self._found |= codes
+        for comment in self._about(start, end):
+            comment.is_used = comment.is_used or comment.silences(codes)
+
+    def unused(self) -> List[Comment]:
+        """The comments that silence no finding."""
+        found = {id(comment): comment for comment in self._comments if not comment.is_used}
+        return [*found.values(), *(comment for comment in self._of_file if not comment.silences(self._found))]
+
+    def _about(self, start: int, end: int) -> List[Comment]:
+        first = bisect_left(self._abouts, self._lines.begin(start))
+        return self._comments[first : bisect_left(self._abouts, max(end, start + 1))]

@@ -2,12 +2,11 @@
 
 from __future__ import annotations
 
-from typing import Iterator, Optional
+from typing import Iterator, Sequence, Tuple
 
-from .findings import Remark, Severity, Tree
+from .findings import Remark, Severity, Tree, duration_text, inner
 from .subject import Subject
 from .table import rule
-from .trees import duration_text, inner
 
 _RATES = ("rate", "irate", "increase")
 # What ends the name of a counter, or of a part of a histogram or a summary.
@@ -16,29 +15,38 @@ _OF_GAUGES = ("delta", "idelta", "deriv", "predict_linear", "double_exponential_
 _SUMS = ("sum", "avg", "min", "max", "count", "group", "stddev", "stdvar", "quantile")
 
 
-def _name_of_argument(subject: Subject, call: Tree) -> Optional[str]:
-    """The metric whose range is the first argument of a call."""
-    node = inner(call["args"][0])
-    return subject.metric(node) if node["type"] == "matrixSelector" else None
+def _over_metrics(subject: Subject, functions: Sequence[str]) -> Iterator[Tuple[Tree, str, str]]:
+    """The calls of functions whose first argument is the range of a metric: each with its function and the metric."""
+    for call in subject.calls(*functions):
+        node = inner(call["args"][0])
+        name = subject.metric(node) if node["type"] == "matrixSelector" else None
+        if name:
+            yield call, call["func"]["name"], name
+
+
+def _over_subqueries(subject: Subject, kind: str) -> Iterator[Tuple[Tree, str, Tree]]:
+    """The rates over subqueries of this kind of node: each with its function and that node."""
+    for call in subject.calls(*_RATES):
+        node = inner(call["args"][0])
+        below = inner(node["expr"]) if node["type"] == "subquery" else node
+        if below is not node and below["type"] == kind:
+            yield call, call["func"]["name"], below
 
 
 @rule("P201", "rate-of-recorded", Severity.WARNING, needs="call")
 def rate_of_recorded(subject: Subject) -> Iterator[Remark]:
     """A rate of a metric whose name is that of a recording rule for something else than a counter."""
-    for call in subject.calls(*_RATES):
-        name = _name_of_argument(subject, call)
-        if name and ":" in name.strip(":") and not name.endswith(_COUNTER_ENDINGS):
-            function = call["func"]["name"]
+    for call, function, name in _over_metrics(subject, _RATES):
+        if ":" in name.strip(":") and not name.endswith(_COUNTER_ENDINGS):
             yield Remark(subject.span(call), f"`{function}` needs a counter, and `{name}` is recorded by a rule")
 
 
 @rule("P202", "rate-of-no-counter", Severity.INFO, is_default=False, needs="call")
 def rate_of_no_counter(subject: Subject) -> Iterator[Remark]:
     """A rate of a metric whose name has no ending of a counter."""
-    for call in subject.calls(*_RATES):
-        name = _name_of_argument(subject, call)
-        if name and ":" not in name and not name.endswith(_COUNTER_ENDINGS):
-            function, endings = call["func"]["name"], ", ".join(f"`{it}`" for it in _COUNTER_ENDINGS)
+    for call, function, name in _over_metrics(subject, _RATES):
+        if ":" not in name and not name.endswith(_COUNTER_ENDINGS):
+            endings = ", ".join(f"`{it}`" for it in _COUNTER_ENDINGS)
             message = f"`{function}` needs a counter, and `{name}` is none by its name, which ends in none of {endings}"
             yield Remark(subject.span(call), message)
 
@@ -46,10 +54,8 @@ def rate_of_no_counter(subject: Subject) -> Iterator[Remark]:
 @rule("P203", "counter-as-gauge", Severity.WARNING, needs="call")
 def counter_as_gauge(subject: Subject) -> Iterator[Remark]:
     """A function for gauges over a counter, which falls to zero where its process starts anew."""
-    for call in subject.calls(*_OF_GAUGES):
-        name = _name_of_argument(subject, call)
-        if name and name.endswith(("_total", "_bucket")):
-            function = call["func"]["name"]
+    for call, function, name in _over_metrics(subject, _OF_GAUGES):
+        if name.endswith(("_total", "_bucket")):
             other = "`rate` or `increase`" if function in ("delta", "idelta") else "`rate` in a subquery"
             yield Remark(subject.span(call), f"`{function}` is for gauges, and `{name}` is a counter: use {other}")
 
@@ -57,11 +63,9 @@ def counter_as_gauge(subject: Subject) -> Iterator[Remark]:
 @rule("P204", "rate-of-sum", Severity.ERROR, needs="call")
 def rate_of_sum(subject: Subject) -> Iterator[Remark]:
     """A rate over a subquery of an aggregation, where resets of the single counters are lost."""
-    for call in subject.calls(*_RATES):
-        node = inner(call["args"][0])
-        below = inner(node["expr"]) if node["type"] == "subquery" else None
-        if below and below["type"] == "aggregation" and below["op"] in _SUMS:
-            function, op = call["func"]["name"], below["op"]
+    for call, function, below in _over_subqueries(subject, "aggregation"):
+        op = below["op"]
+        if op in _SUMS:
             message = f"`{function}` of `{op}` sees no reset of a single counter: take the `{function}` first, then the `{op}`"
             yield Remark(subject.span(call), message)
 
@@ -69,11 +73,9 @@ def rate_of_sum(subject: Subject) -> Iterator[Remark]:
 @rule("P205", "rate-of-rate", Severity.ERROR, needs="call")
 def rate_of_rate(subject: Subject) -> Iterator[Remark]:
     """A rate over a subquery of what goes up and down."""
-    for call in subject.calls(*_RATES):
-        node = inner(call["args"][0])
-        below = inner(node["expr"]) if node["type"] == "subquery" else None
-        if below and below["type"] == "call" and below["func"]["name"] in (*_RATES, *_OF_GAUGES):
-            function, other = call["func"]["name"], below["func"]["name"]
+    for call, function, below in _over_subqueries(subject, "call"):
+        other = below["func"]["name"]
+        if other in (*_RATES, *_OF_GAUGES):
             yield Remark(subject.span(call), f"`{function}` needs a counter, and what `{other}` gives is none")
 
 
@@ -92,7 +94,8 @@ def short_range(subject: Subject) -> Iterator[Remark]:
     """A range in which there are too few samples, or between which samples are never looked at."""
     for node in subject.of_type("matrixSelector"):
         message = _why_short(subject, node)
-        if not message or _is_in_subquery(subject, node):
+        # (in a subquery a node is evaluated many times for each evaluation of the query)
+        if not message or subject.is_below(node, _is_subquery):
             continue
         span = subject.place(node).range or subject.span(node)
         if subject.is_written(subject.text[span.start : span.end]):
@@ -111,11 +114,6 @@ def _why_short(subject: Subject, node: Tree) -> str:
     if interval and length < interval:
         return f"the group is evaluated every {duration_text(interval)}, and so what is not in these {text} is never seen"
     return ""
-
-
-def _is_in_subquery(subject: Subject, node: Tree) -> bool:
-    """Whether a node is evaluated many times for each evaluation of the query."""
-    return subject.is_below(node, _is_subquery)
 
 
 def _is_subquery(node: Tree) -> bool:

@@ -1,4 +1,5 @@
-"""What is found in the queries of a file, with places there, and the file with its fixes."""
+"""What is found in the queries of a file, with places there, and the file with its fixes. What was found in a query before is known: in a file
+that is read again, or in many files, few are new."""
 
 from __future__ import annotations
 
@@ -6,27 +7,78 @@ import json
 import re
 from difflib import SequenceMatcher
 from itertools import accumulate
-from typing import Any, Dict, FrozenSet, Iterator, List, NamedTuple, Optional, Sequence, Set, Tuple
+from typing import Any, Callable, Dict, FrozenSet, Iterator, List, Mapping, NamedTuple, Optional, Sequence, Set, Tuple
 
 import promql
 
-from ..checked_queries import Budget
+from ..checked_queries import Budget, Document, GivenQuery, PlacedSpelling, Store, take
 from ..dashboards import Dashboard, JsonString
 from ..files import BLANKS, BoundError, Fault, FileError, Source
 from ..queries import Edit, Query, edited
-from ..query_files import Document, GivenQuery, PlacedSpelling
 from ..rule_files import RuleFile
 from ..scalars import Scalar
-from . import found_in
-from .comments import Ignored, codes_of, ignored_in, silenced_in
+from . import found_in, look_at
+from .comments import Comment, Ignored, Silences, codes_of, ignored_in, silenced_in
 from .findings import Finding, Fix, Severity, Span, TextEdit, Tree
-from .fixes import all_fixed
-from .known_looks import LOOKS, KnownLooks, take
+from .fixes import all_fixed, right_of
 from .records import SharedRecords
 from .rule_places import MOST_INTERVALS, RulePlace, rules_of
-from .silence import Comment, Silences
 from .subject import IsWritten, RuleContext, always
 from .table import LIVE, REJECTED, UNUSED, Selection, known_codes
+
+# How many characters are counted for a finding that is kept.
+_FINDING = 500
+
+
+class KnownLooks:
+    """Looks at queries, each once for all rules of which the linter knows the same."""
+
+    def __init__(self) -> None:
+        self._recorded: Mapping[str, int] = {}
+        self._known = Store()
+
+    def look_at(
+        self,
+        query: str,
+        selection: Selection,
+        context: RuleContext,
+        is_written: IsWritten,
+        has_fixes: bool,
+        explains: Callable[[promql.QueryError], bool],
+        budget: Budget,
+    ) -> List[Finding]:
+        """As `look_at` of the linter does, as far as the budget goes. The changes that a fix means to the tree are not kept."""
+        if is_written is not always:
+            # (what stands for a variable may be another variable elsewhere)
+            take(query, budget)
+            return look_at(query, selection, context, is_written, has_fixes, explains)
+        key = self._key(query, selection, context, has_fixes)
+        if key not in self._known:
+            for text in (query, *context.template_queries):
+                take(text, budget)
+            found = look_at(query, selection, context, is_written, has_fixes, explains)
+            self._keep(key, [it._replace(fix=it.fix and it.fix._replace(changes=())) for it in found])
+        known: List[Finding] = self._known[key]
+        return known
+
+    def keep(self, query: str, selection: Selection, context: RuleContext, found: List[Finding]) -> None:
+        """Keeps what was found in a query without variables, where no finding has a fix that would be checked."""
+        if not any(finding.fix for finding in found):
+            self._keep(self._key(query, selection, context, True), sorted(found, key=lambda it: it[:3]))
+
+    def _key(self, query: str, selection: Selection, context: RuleContext, has_fixes: bool) -> Tuple[Any, ...]:
+        if context.recorded is not self._recorded:
+            if context.recorded != self._recorded:
+                self._known.forget()
+            self._recorded = context.recorded
+        return query, selection, has_fixes, context.records.key_of(query), context.twice(query), *context.key
+
+    def _keep(self, key: Tuple[Any, ...], found: List[Finding]) -> None:
+        self._known.keep(key, found, len(key[0]) + _FINDING * (1 + len(found)))
+
+
+LOOKS = KnownLooks()
+
 
 # A part that changed is written whole where it is longer, or where such parts of a file, each times what is there instead, are too large.
 _LONGEST_COMPARED, _MOST_COMPARED = 1_000, 250_000
@@ -136,7 +188,7 @@ class FileLinter:
 
     def silenced(self, query: Query) -> FrozenSet[str]:
         """The codes that comments silence of a query in all rules that have it."""
-        return frozenset.intersection(*(ignored.codes for _, ignored in self._contexts(query))) | ignored_in(query.text).codes
+        return frozenset.intersection(*(ignored for _, ignored in self._contexts(query))) | ignored_in(query.text)
 
     def _look_at_query(self, query: Query) -> List[Finding]:
         """What is found in a query, for each of the rules that have it."""
@@ -147,7 +199,7 @@ class FileLinter:
             self.left.append(query.whole(f"an alias has it in {count}: it is looked at for {MOST_CONTEXTS} of these"))
         for context, ignored in contexts[:MOST_CONTEXTS]:
             for finding in self._look(query, context):
-                if not ignored.has(finding.code):
+                if finding.code not in ignored:
                     found[(*finding.span, finding.code, finding.message)] = finding
                 else:
                     self._silenced_codes.setdefault(id(query), set()).add(finding.code)
@@ -163,7 +215,7 @@ class FileLinter:
         for _ in contexts:
             take(query.text, self._budget)
         is_written, tree = self._is_written(query), promql.parse(query.text)
-        found = (found_in(query.text, tree, self._selection, context, is_written, Ignored()) for context in contexts)
+        found = (found_in(query.text, tree, self._selection, context, is_written, frozenset()) for context in contexts)
         codes = {finding.code for findings in found for finding in findings}
         self._silenced_codes.setdefault(id(query), set()).update(codes)
         for comment in silenced_in(query.text) if self._silences is None else ():
@@ -194,8 +246,8 @@ class FileLinter:
         silences = self._silences
         found: Dict[Tuple[Any, ...], Tuple[RuleContext, Ignored]] = {}
         for context, start, end in self._places(query):
-            ignored = silences.between(start, end) if silences else Ignored()
-            found.setdefault((context.key, ignored), (context, ignored))
+            ignored = silences.between(start, end) if silences else frozenset()
+            found.setdefault((context.key, context.same_query, ignored), (context, ignored))
         return list(found.values())
 
     def _places(self, query: Query) -> List[Tuple[RuleContext, int, int]]:
@@ -267,12 +319,7 @@ class FileLinter:
 
     def _right(self, changes: Sequence[_Change]) -> List[_Change]:
         """Those of some changes with which the file is read as it is to be, as far as the file is read so often to find them."""
-        if not changes or self._reads <= 0:
-            return []
-        if self._with(changes) is not None:
-            return list(changes)
-        half = len(changes) // 2
-        return self._right(changes[:half]) + self._right(changes[half:]) if half else []
+        return right_of(changes, lambda some: self._reads > 0 and self._with(some) is not None, lambda: self._reads > 0)
 
     def _with(self, changes: Sequence[_Change]) -> Optional[str]:
         """The text of the file with these changes, where it is read as that."""
@@ -303,7 +350,7 @@ class FileLinter:
             found = list(found_in(text, tree, self._selection, context, is_written))
             if is_written is always:
                 self._looks.keep(text, self._selection, context, found)
-            return [it for it in found if not any(ignored.has(it.code) for _, ignored in contexts)]
+            return [it for it in found if not any(it.code in ignored for _, ignored in contexts)]
 
         try:
             text = all_fixed(query.text, look)

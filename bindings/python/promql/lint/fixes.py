@@ -3,7 +3,7 @@
 from __future__ import annotations
 
 from bisect import bisect_left, insort
-from typing import Any, Callable, Dict, Iterator, List, NamedTuple, Optional, Sequence, Set, Tuple
+from typing import Any, Callable, Dict, Iterator, List, NamedTuple, Optional, Sequence, Set, Tuple, TypeVar
 
 import promql
 
@@ -11,12 +11,21 @@ from ..queries import edited
 from ..token_texts import comments_of
 from .findings import Finding, Fix, TextEdit, Tree
 
+Item = TypeVar("Item")
 # More rounds of fixes than any query needs.
 _MOST_ROUNDS = 20
 # Of so few fixes each is checked by itself. More are checked together, by halves where they are not right together.
 _FEW = 4
 # How often a query is read at most to check what is found in it, and to fix it.
 _MOST_READS = 24
+
+
+def right_of(items: Sequence[Item], are_right: Callable[[Sequence[Item]], bool], goes_on: Callable[[], bool]) -> List[Item]:
+    """Those of some that are right together, which are found by halves as long as that is to go on."""
+    if are_right(items):
+        return list(items)
+    half = len(items) // 2
+    return right_of(items[:half], are_right, goes_on) + right_of(items[half:], are_right, goes_on) if half and goes_on() else []
 
 
 class Changed(NamedTuple):
@@ -44,12 +53,7 @@ class FixChecker:
 
     def _right(self, fixes: Sequence[Fix]) -> List[Fix]:
         """Those of some fixes that do not meet which are right."""
-        if self.change(fixes):
-            return list(fixes)
-        if len(fixes) == 1 or not self._reads:
-            return []
-        half = len(fixes) // 2
-        return self._right(fixes[:half]) + self._right(fixes[half:])
+        return right_of(fixes, lambda some: self.change(some) is not None, lambda: self._reads > 0)
 
     def change(self, fixes: Sequence[Fix]) -> Optional[Changed]:
         """What fixes make together, where it has the tree that they mean, and the comments of the query."""

@@ -5,12 +5,10 @@ from __future__ import annotations
 from collections import Counter
 from typing import FrozenSet, Iterator, Tuple
 
-from .findings import Remark, Severity, Tree
-from .label_flow import Labels, needs_value
-from .strings import requoted
+from .findings import NAME, Remark, Severity, Tree, fills, inner, matching_of, requoted
+from .flow import Labels, needs_value
 from .subject import Subject
 from .table import rule
-from .trees import NAME, fills, inner, matching_of
 
 
 @rule("P401", "lost-label", Severity.WARNING, needs="aggregation")

@@ -6,9 +6,8 @@ import re
 from typing import Dict, Iterator, List, Optional, Tuple
 
 from . import patterns
-from .findings import Fix, Remark, Severity, Span, TextEdit, Tree
+from .findings import Fix, Remark, Severity, Span, TextEdit, Tree, requoted
 from .go_patterns import why_rejected
-from .strings import requoted
 from .subject import SeenMatcher, Subject
 from .table import rule
 

@@ -10,10 +10,9 @@ import promql
 
 from ..files import BoundError
 from ..rule_checks import mappings_in
+from ..scalars import Mappings, Node
 from ..token_texts import tokens_of
-from ..yaml_mappings import Mappings
-from ..yaml_nodes import Node
-from .label_flow import LabelFlow, Labels
+from .flow import LabelFlow, Labels
 
 # What may be the name of a metric, in whatever it is.
 _WORD = re.compile(r"[A-Za-z_:][\w:]*", re.ASCII)
@@ -64,9 +63,10 @@ class Records:
 
     def key_of(self, query: str) -> Optional[int]:
         """What tells these metrics from those of another file, where a query may read one of them."""
-        names = _WORD.findall(query) if self._rules else ()
-        is_near = any(name in self._rules or self.why_not(name) for name in names) or names and "\\" in query
-        return self._hash if is_near else None
+        names = set(_WORD.findall(query)) if self._rules else ()
+        # (a name without a colon is none that a rule should record)
+        is_near = not self._rules.keys().isdisjoint(names) or any(":" in name and self.why_not(name) for name in names)
+        return self._hash if is_near or names and "\\" in query else None
 
     def labels_of(self, name: str) -> Optional[Labels]:
         """The labels of the series of a metric, where a rule of the file records it, and they can be told."""

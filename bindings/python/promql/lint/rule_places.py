@@ -8,14 +8,12 @@ from typing import Dict, FrozenSet, Iterator, List, NamedTuple, Optional, Set, T
 
 import promql
 
-from ..checked_queries import Budget
+from ..checked_queries import Budget, take
 from ..files import BoundError
 from ..rule_checks import DURATION, MILLISECONDS, mappings_in
 from ..rule_documents import Kind
 from ..rule_files import RuleFile
-from ..yaml_mappings import Mappings
-from ..yaml_nodes import Node
-from .known_looks import take
+from ..scalars import Mappings, Node
 from .records import RecordedRule, RecordsReader, SharedRecords
 from .subject import RuleContext
 
@@ -200,16 +198,13 @@ def _asks(action: str) -> bool:
 
 def _end(rule: Node) -> int:
     """Where the last text of a rule ends. (A mapping of YAML has the comments after it, too, and what an alias stands for is before it.)"""
-    end, todo, seen = rule.start, [rule], set()
+    start, end, todo, seen = rule.start, rule.start, [rule], set()
     while todo:
-        node = todo.pop()
-        if id(node) in seen or node.start < rule.start:
+        collection = todo.pop()
+        if id(collection) in seen:
             continue
-        seen.add(id(node))
-        if node.is_scalar():
-            end = max(end, node.end)
-        elif node.kind == "sequence":
-            todo += node.value
-        elif node.kind == "mapping":
-            todo += [part for entry in node.value for part in entry]
+        seen.add(id(collection))
+        parts = collection.value if collection.kind == "sequence" else [part for entry in collection.value for part in entry]
+        end = max(end, *(part.end for part in parts if part.kind == "scalar" and part.start >= start), end)
+        todo += [part for part in parts if part.kind != "scalar" and part.start >= start]
     return end

@@ -28,12 +28,6 @@ RULES: Dict[str, Rule] = {}
 # What is no rule of its own: the library rejects the query; its patterns and values are too large together to be compared; a comment
 # silences nothing.
 REJECTED, UNCOMPARED, UNUSED = "P001", "P002", "P003"
-NAMES = {REJECTED: "rejected", UNCOMPARED: "not-compared", UNUSED: "unused-comment"}
-_HELPS = {
-    REJECTED: "The query is rejected.",
-    UNCOMPARED: "The patterns of the query are too large to be compared with its values.",
-    UNUSED: "A comment silences no finding.",
-}
 # What `check --prometheus` finds, by its codes: names and helps.
 LIVE = {
     "P801": ("no-such-metric", "A metric of which a server has no series."),
@@ -44,8 +38,13 @@ LIVE = {
     "P806": ("many-samples", "A query that reads more samples of a server than it may."),
     "P807": ("reads", "How many series and samples of a server a query reads."),
 }
-NAMES.update({code: name for code, (name, _) in LIVE.items()})
-_HELPS.update({code: text for code, (_, text) in LIVE.items()})
+# The names and the helps of codes without a rule.
+_OTHERS = {
+    REJECTED: ("rejected", "The query is rejected."),
+    UNCOMPARED: ("not-compared", "The patterns of the query are too large to be compared with its values."),
+    UNUSED: ("unused-comment", "A comment silences no finding."),
+    **LIVE,
+}
 
 
 def rule(code: str, name: str, severity: Severity, is_default: bool = True, needs: str = "") -> Callable[[Look], Look]:
@@ -60,16 +59,16 @@ def rule(code: str, name: str, severity: Severity, is_default: bool = True, need
 
 
 def name_of(code: str) -> str:
-    return NAMES.get(code) or RULES[code].name
+    return _OTHERS[code][0] if code in _OTHERS else RULES[code].name
 
 
 def help_of(code: str) -> str:
     """What a rule looks for, in a sentence."""
-    return _HELPS.get(code) or (RULES[code].look.__doc__ or "").split("\n")[0]
+    return _OTHERS[code][1] if code in _OTHERS else (RULES[code].look.__doc__ or "").split("\n")[0]
 
 
 def known_codes() -> List[str]:
-    return sorted([*NAMES, *RULES])
+    return sorted([*_OTHERS, *RULES])
 
 
 class Selection(NamedTuple):
@@ -88,7 +87,7 @@ class Selection(NamedTuple):
                 return is_on
         if self.selected:
             return any(is_meant(code, word) for word in self.selected)
-        return code in NAMES or RULES[code].is_default
+        return code in _OTHERS or RULES[code].is_default
 
     def rules(self, features: FrozenSet[str]) -> Tuple[Rule, ...]:
         """The rules that may find something in a query that has these."""

@@ -9,8 +9,7 @@ import promql
 from ..token_texts import MATCHER_SIGNS, Token
 from .context import BRACES, BRACKETS, LABEL_LIST, Context, context_at
 from .functions import AGGREGATIONS, FUNCTIONS, WORDS, Function
-from .names import Known, Names, known, names_of
-from .selectors import plain
+from .names import Known, Names, known, names_of, plain
 
 # The kinds of the protocol.
 _FUNCTION, _FIELD, _VARIABLE, _VALUE, _KEYWORD, _OPERATOR = 3, 5, 6, 12, 14, 24

@@ -1,4 +1,4 @@
-"""The documents that an editor has open."""
+"""The documents that an editor has open, and the query that is being written where one is not read as it is."""
 
 from __future__ import annotations
 
@@ -8,15 +8,61 @@ from typing import Any, Iterator, List, NamedTuple, Optional, Sequence, Tuple
 
 import promql
 
-from .messages import INVALID_PARAMS, ProtocolError
-from .positions import Lines, Range
-from .findings import given_query, lint_problems, page_of
+from ..dashboards import may_have_queries
+from ..documents import GROUPS
+from ..scalars import Scalar, flow_text
+from .findings import ERROR, Problem, given_query, lint_problems, page_of
 from .layout import RuleLayouts
+from .messages import INVALID_PARAMS, ProtocolError
 from .outline import Group
-from .problems import ERROR, Problem
+from .positions import Lines, Range
 from .rules import PlacedQuery, Rule, read_lines
 from .settings import Settings
-from .unread import query_at
+
+_KEY = re.compile(r"(?:^|[-{,])[ \t]*([\"']?)expr\1[ \t]*:[ \t]*")
+_HEADER = re.compile(r"(?:[|>][-+1-9]*)?[ \t]*(?:#.*)?$")
+# A text in quotes up to its end, where it has one. (What is longer than this is no query.)
+_VALUE = re.compile(r""""(?:\\[^\r\n]|[^"\\\r\n]){0,40000}|'(?:''|[^'\r\n]){0,40000}|[^\r\n]{0,40000}""")
+_LINE_END = re.compile(r"[\r\n]|\Z")
+
+
+def query_at(text: str, offset: int, is_json: bool, is_read: bool) -> Optional[PlacedQuery]:
+    """The query around a place, or an empty one that may be written there."""
+    begin = max(text.rfind("\n", 0, offset), text.rfind("\r", 0, offset)) + 1
+    found = _LINE_END.search(text, begin)
+    line = text[begin : found.start() if found else begin]
+    value = _value(line, offset - begin)
+    if value is None and line.strip() or not (may_have_queries(text) if is_json else GROUPS.search(text)):
+        return None
+    is_empty = _is_below(text, begin, offset) if value is None else line[value:].lstrip()[:1] in ("", "#")
+    if is_empty:
+        return PlacedQuery("", range(offset, offset + 1))
+    # (of a value that was read it is known whether it is a query)
+    return None if value is None or is_read or _HEADER.match(line, value) else _on_line(text, begin + value)
+
+
+def _value(line: str, before: int) -> Optional[int]:
+    """Where the value of an `expr` begins on a line, up to this place."""
+    found = [it.end() for it in _KEY.finditer(line, 0, before)]
+    return found[-1] if found else None
+
+
+def _on_line(text: str, start: int) -> PlacedQuery:
+    """What is written from there on."""
+    value = _VALUE.match(text, start)
+    end, quote = value.end() if value else start, text[start : start + 1] if text[start : start + 1] in ("'", '"') else ""
+    read = flow_text(Scalar(text, start, end + len(quote), start, quote, False, 0))
+    query = read.text if quote else read.text.rstrip()
+    return PlacedQuery(query, [*read.offsets, end][: len(query) + 1])
+
+
+def _is_below(text: str, begin: int, offset: int) -> bool:
+    """Whether a place on an empty line is in the block of an `expr` that has no text yet."""
+    above = text[:begin].rstrip()
+    line = above[max(above.rfind("\n"), above.rfind("\r")) + 1 :]
+    value = _value(line, len(line))
+    return value is not None and bool(_HEADER.match(line, value)) and offset - begin > len(line) - len(line.lstrip())
+
 
 # A document is not looked at where it is larger.
 MOST_CHARACTERS = 8 * 1024 * 1024
@@ -136,13 +182,10 @@ class Document:
         number = bisect_right([rule.start for rule in self.rules], offset) - 1
         for rule in self.rules[max(number, 0) : number + 1]:
             for query in rule.queries:
-                if query.start <= offset <= query.end or self._is_after(query, offset):
+                if query.start <= offset <= query.end + (_blanks(self.text, query.end) if offset > query.end else 0):
                     return Place(query, query.inside(offset))
         written = query_at(self.text, offset, self.is_json, self.is_read) if self.is_rule_file else None
         return Place(written, written.inside(offset)) if written else None
-
-    def _is_after(self, query: PlacedQuery, offset: int) -> bool:
-        return query.end <= offset <= query.end + _blanks(self.text, query.end)
 
     def range_in(self, query: PlacedQuery, start: int, end: int) -> Range:
         """The range of a part of a query."""

@@ -6,14 +6,14 @@ import re
 from typing import Any, Callable, Dict, Iterator, List, NamedTuple, Optional, Tuple
 
 from ..queries import Edit
-from . import completion, hover, navigation, outline, selection, semantic
+from . import completion, context, hover, navigation, outline, semantic
 from .documents import Document, Place, diagnostic
 from .functions import Function
 from .messages import CONTENT_MODIFIED, INVALID_PARAMS, ProtocolError, member, whole
-from .names import Known, known
+from .names import Known, Use, known
 from .prometheus import Prometheus
-from .roles import TYPES
 from .rules import PlacedQuery
+from .semantic import TYPES
 from .settings import path_of
 from .work import FIX, RENAME
 
@@ -88,6 +88,10 @@ class At(NamedTuple):
     offset: int
     place: Optional[Place]
 
+    @property
+    def metric(self) -> Optional[Use]:
+        return navigation.metric_at(self.document, self.offset)
+
 
 def uri_of(params: Any) -> str:
     uri = member(params, "textDocument", "uri")
@@ -107,7 +111,7 @@ def on_hover(workspace: Workspace, params: Any) -> Any:
     found = hover.hover(at.place.query.text, at.place.at) if at.place else None
     if not found or not at.place:
         return None
-    text, metric = at.place.query.shown(found.text), navigation.metric_at(at.document, at.offset)
+    text, metric = at.place.query.shown(found.text), at.metric
     if metric and workspace.prometheus:
         told = workspace.prometheus.help(metric.name)
         workspace.wait_for_server()
@@ -177,16 +181,14 @@ def _parameter_spans(function: Function) -> List[List[int]]:
 
 
 def on_definition(workspace: Workspace, params: Any) -> Any:
-    at = where(workspace, params)
-    metric = navigation.metric_at(at.document, at.offset)
+    metric = where(workspace, params).metric
     if not metric:
         return None
     return [navigation.location(*place) for place in navigation.records(workspace.all, metric.name)]
 
 
 def on_references(workspace: Workspace, params: Any) -> Any:
-    at = where(workspace, params)
-    metric = navigation.metric_at(at.document, at.offset)
+    metric = where(workspace, params).metric
     if not metric:
         return None
     found = list(navigation.uses(workspace.all, metric.name))
@@ -197,7 +199,7 @@ def on_references(workspace: Workspace, params: Any) -> Any:
 
 def on_prepare_rename(workspace: Workspace, params: Any) -> Any:
     at = where(workspace, params)
-    metric = navigation.metric_at(at.document, at.offset)
+    metric = at.metric
     if not metric:
         return None
     return {"range": at.document.lines.range(metric.start, metric.end), "placeholder": metric.name}
@@ -206,7 +208,7 @@ def on_prepare_rename(workspace: Workspace, params: Any) -> Any:
 def on_rename(workspace: Workspace, params: Any) -> Any:
     at = where(workspace, params)
     new = params.get("newName")
-    metric = navigation.metric_at(at.document, at.offset)
+    metric = at.metric
     if not metric or not isinstance(new, str):
         raise ProtocolError(INVALID_PARAMS, "there is no metric here")
     changes = navigation.rename(workspace.all, metric.name, new)
@@ -230,7 +232,7 @@ def _selections(document: Document, offset: int) -> Any:
     for start, end in document.parts():
         if start <= offset <= end:
             found = {"range": document.lines.range(start, end), "parent": found}
-    for span in reversed(selection.spans_around(place.query.text, place.at) if place else []):
+    for span in reversed(context.spans_around(place.query.text, place.at) if place else []):
         assert place
         inner = document.range_in(place.query, *span)
         if inner != found["range"]:
@@ -247,7 +249,7 @@ def on_semantic_tokens(workspace: Workspace, params: Any) -> Any:
 def on_document_highlight(workspace: Workspace, params: Any) -> Any:
     """The places of a metric in the document, written or read; of any other word those in the query."""
     at = where(workspace, params)
-    metric = navigation.metric_at(at.document, at.offset)
+    metric = at.metric
     if metric:
         places = [(it, kind) for kind, find in ((3, navigation.records), (2, navigation.uses)) for it in find([at.document], metric.name)]
         return [{"range": at.document.lines.range(start, end), "kind": kind} for (_, start, end), kind in places]

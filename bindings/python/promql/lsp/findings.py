@@ -1,18 +1,33 @@
-"""Findings of the linter as problems of a document, and their fixes."""
+"""What is wrong in a document, or likely to be: the findings of the linter, and their fixes."""
 
 from __future__ import annotations
 
 from functools import lru_cache
 from pathlib import Path
-from typing import List, Optional
+from typing import List, NamedTuple, Optional
 
+from ..checked_queries import Document, GivenQuery
 from ..files import FileError, Source
 from ..lint.file_findings import FileLinter
 from ..lint.findings import Severity
 from ..lint.table import RULES, Selection
 from ..queries import Edit
-from ..query_files import Document, GivenQuery
-from .problems import INFORMATION, WARNING, Problem
+
+# How bad it is, as the protocol numbers it.
+ERROR, WARNING, INFORMATION = 1, 2, 3
+
+
+class Problem(NamedTuple):
+    """What is wrong with the part `text[start:end]` of a document."""
+
+    start: int
+    end: int
+    severity: int
+    message: str
+    # The code of a rule of the linter, and whether it has a fix.
+    code: str = ""
+    is_fixable: bool = False
+
 
 _SEVERITIES = {Severity.ERROR: WARNING, Severity.WARNING: WARNING, Severity.INFO: INFORMATION}
 # The page that has the rules, where the package is in its repository.

@@ -7,11 +7,10 @@ from typing import Any, Dict, NamedTuple, Optional, Sequence, Tuple
 import promql
 
 from ..labels import children_of, nodes_of
-from ..token_texts import Token, code_of
+from ..token_texts import Token, code_of, token_at
 from .context import AGGREGATION, CALL, context_at
 from .functions import AGGREGATIONS, FUNCTIONS, TYPES, WORDS, Function
-from .selectors import Selector, plain, selectors_of
-from .tokens import token_at
+from .names import Selector, plain, selectors_of
 
 _SAYINGS = {"=": "is", "!=": "is not", "=~": "matches", "!~": "does not match"}
 # The types of what has one whatever is in it.

@@ -3,13 +3,14 @@
 from __future__ import annotations
 
 import re
+from contextlib import suppress
 from typing import Dict, Iterator, List, NamedTuple, Optional, Tuple, Union
 
 import promql
 
 from ..dashboards import Dashboard
-from ..files import BLANKS, FileError
-from ..format_command import Printer
+from ..files import FileError
+from ..format_command import Printer, same_as
 from ..options import PEOPLE, WIDTH
 from ..queries import Edit, Query, edited
 from ..rule_files import RuleFile
@@ -46,9 +47,10 @@ def _edits_in(file: Union[Dashboard, RuleFile], span: Optional[Span], settings: 
     edits = [query.spelling.edit(new) for query, new in changes]
     if by_rules and isinstance(file, RuleFile) and len(edits) <= _FEW and _means_the_same_by_rules(file, changes, edits, settings):
         return sorted(edits)
-    if not _means_the_same(file, printers, changes, edited(text, edits)):
-        raise LeftError(_NOT_SAME)
-    return sorted(edits)
+    with suppress(FileError):
+        if file.same(edited(text, edits), same_as(changes, printers.of)):
+            return sorted(edits)
+    raise LeftError(_NOT_SAME)
 
 
 class _Printers:
@@ -73,19 +75,6 @@ class _Printers:
 
 def _is_in(query: Query, span: Optional[Span]) -> bool:
     return span is None or query.offsets[0] <= span[1] and span[0] <= query.offsets[-1]
-
-
-def _means_the_same(file: Union[Dashboard, RuleFile], printers: _Printers, changes: List[Tuple[Query, str]], text: str) -> bool:
-    queries = {(query.original, new): query for query, new in changes}
-
-    def same_query(old: str, new: str) -> bool:
-        query = queries.get((old, new.rstrip(BLANKS)))
-        return old == new or query is not None and printers.of(query).means(new, query)
-
-    try:
-        return file.same(text, same_query)
-    except FileError:
-        return False
 
 
 def _means_the_same_by_rules(file: RuleFile, changes: List[Tuple[Query, str]], edits: List[Edit], settings: Settings) -> bool:

@@ -9,34 +9,26 @@ from typing import Any, Dict, Iterable, Iterator, List, NamedTuple, Optional, Se
 
 import promql
 
+from ..documents import targets_of
 from ..files import FileError, read_source
 from ..queries import Edit, edited
-from ..targets import targets_of
-from ..yaml_nodes import NULLS
+from ..scalars import NULLS
 from .documents import TOO_LARGE, Document
 from .layout import LeftError
 from .messages import INVALID_PARAMS, REQUEST_FAILED, ProtocolError
-from .names import names_of
+from .names import Use, names_of
 from .rules import PlacedQuery, file_of, problems_of, read_lines
 
 
-class Named(NamedTuple):
-    """The name of a metric at a place of a document, `text[start:end]` of it."""
-
-    name: str
-    start: int
-    end: int
-
-
-def metric_at(document: Document, offset: int) -> Optional[Named]:
-    """The metric that is named at a place, in a query or as what a rule records."""
+def metric_at(document: Document, offset: int) -> Optional[Use]:
+    """The metric that is named at a place, in a query or as what a rule records, with its part of the document."""
     for rule in document.rules:
         if rule.record and rule.record_start <= offset <= rule.record_end:
-            return Named(rule.record, rule.record_start, rule.record_end)
+            return Use(rule.record, rule.record_start, rule.record_end)
     place = document.place(offset)
     for use in place.query.names.metrics if place else ():
         if place and use.start <= place.at <= use.end:
-            return Named(use.name, *place.query.span(use.start, use.end))
+            return Use(use.name, *place.query.span(use.start, use.end))
     return None
 
 

@@ -5,7 +5,7 @@ from __future__ import annotations
 import re
 from typing import Any, Dict, Tuple
 
-from ..line_index import LineIndex
+from ..files import LineIndex
 from .messages import INVALID_PARAMS, ProtocolError, whole
 
 _WIDE = re.compile("[\U00010000-\U0010ffff]")
@@ -13,27 +13,23 @@ _WIDE = re.compile("[\U00010000-\U0010ffff]")
 Range = Dict[str, Dict[str, int]]
 
 
-class Lines:
-    """The lines of a text."""
+class Lines(LineIndex):
+    """The lines of a text, with the places that the protocol has for them."""
 
     def __init__(self, text: str) -> None:
+        super().__init__(text)
         self.text = text
-        self._index = LineIndex(text)
         # (most texts have no character of two units, and then units are characters)
         self._is_narrow = text.isascii() or not _WIDE.search(text)
         # (and without carriage returns no place is within a line's end)
         self._is_plain = self._is_narrow and "\r" not in text
 
-    def line_begin(self, offset: int) -> int:
-        """Where the line of a character begins."""
-        return self._index.begin(offset)
-
     def point(self, offset: int) -> Tuple[int, int]:
         """The line of a character, and the UTF-16 units before it there."""
         offset = min(max(offset, 0), len(self.text))
-        begin = self._index.begin(offset)
-        end = offset if self._is_plain else self._index.end(begin, offset)
-        return self._index.line(offset), end - begin if self._is_narrow else units(self.text[begin:end])
+        begin = self.begin(offset)
+        end = offset if self._is_plain else self.end(begin, offset)
+        return self.line(offset), end - begin if self._is_narrow else units(self.text[begin:end])
 
     def position(self, offset: int) -> Dict[str, int]:
         line, character = self.point(offset)
@@ -45,8 +41,8 @@ class Lines:
     def offset(self, position: Any) -> int:
         """The offset of a position. One past a line's end is the end of that line, one past the last line the text's end."""
         line, character = whole(position, "line"), whole(position, "character")
-        begin = self._index.line_begin(line)
-        end = self._index.end(begin, len(self.text))
+        begin = self.line_begin(line)
+        end = self.end(begin, len(self.text))
         if self._is_narrow:
             return min(begin + character, end)
         at = begin

@@ -9,7 +9,8 @@ import urllib.parse
 from collections import deque
 from typing import Any, Callable, Deque, Dict, List, Optional, Tuple
 
-from ..prometheus_api import ApiBounds, ApiError, PrometheusApi
+from ..options import ApiBounds
+from ..prometheus_api import ApiError, PrometheusApi
 from .names import Known
 
 # One request has so many seconds and bytes. At most so many are made in a minute, after which an answer is asked for again.

@@ -15,13 +15,12 @@ from ..grafana_variables import Variables
 from ..messages import listed
 from ..queries import Query
 from ..rule_files import RuleFile
+from ..scalars import Node
 from ..token_texts import tokens_of
-from ..yaml_nodes import Node
-from .findings import lint_problems
+from .context import folds_of
+from .findings import ERROR, WARNING, Problem, lint_problems
 from .names import Names, names_of, names_with
-from .problems import ERROR, WARNING, Problem
-from .roles import Role, roles_of
-from .selection import folds_of
+from .semantic import Role, roles_of
 from .settings import Settings
 
 NAME = "document"

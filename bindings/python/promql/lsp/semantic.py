@@ -1,11 +1,62 @@
-"""The tokens of a document, as the protocol has them: five numbers each, of which the first two count from the token before."""
+"""What each token of a query is, for the colours of an editor; and the tokens of a document, as the protocol has them: five numbers each, of
+which the first two count from the token before."""
 
 from __future__ import annotations
 
-from typing import Iterable, Iterator, List, Tuple
+from typing import TYPE_CHECKING, Iterable, Iterator, List, NamedTuple, Tuple
 
+from ..token_texts import Token, tokens_of
+from .names import LABELS
 from .positions import Lines, units
-from .rules import PlacedQuery
+
+if TYPE_CHECKING:
+    from .rules import PlacedQuery
+
+TYPES = ["function", "keyword", "operator", "string", "regexp", "number", "variable", "property", "comment"]
+_BY_KIND = {
+    "aggregator": "function",
+    "keyword": "keyword",
+    "operator": "operator",
+    "string": "string",
+    "number": "number",
+    "duration": "number",
+    "comment": "comment",
+}
+
+
+class Role(NamedTuple):
+    """The part `text[start:end]` of a query, and the number of what it is."""
+
+    type: int
+    start: int
+    end: int
+
+
+def roles_of(text: str) -> Tuple[Role, ...]:
+    return tuple(_roles(tokens_of(text)))
+
+
+def _roles(tokens: Tuple[Token, ...]) -> Iterator[Role]:
+    labels, before = False, ""
+    for number, token in enumerate(tokens):
+        after = tokens[number + 1].text if number + 1 < len(tokens) else ""
+        if token.is_sign:
+            labels = token.text == "{" or token.text == "(" and before in LABELS or labels and token.text not in "})"
+            name = "operator" if token.kind == "operator" else ""
+        elif labels and token.kind != "comment" and (token.kind != "string" or before == "("):
+            name = "operator" if token.kind == "operator" and before not in ("(", ",", "{") else "property"
+        elif token.kind == "string":
+            name = "regexp" if before in ("=~", "!~") else "string"
+        elif token.kind == "name":
+            name = "function" if after == "(" else "variable"
+        elif token.kind == "aggregator" and after != "(" and after.lower() not in ("by", "without"):
+            name = "variable"
+        else:
+            name = _BY_KIND.get(token.kind, "")
+        if name and token.kind != "error":
+            yield Role(TYPES.index(name), token.start, token.end)
+        if token.kind != "comment":
+            before = token.lower
 
 
 class _Writer:

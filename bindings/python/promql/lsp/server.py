@@ -16,18 +16,17 @@ from ..files import FileError
 from ..queries import Edit
 from .documents import TOO_LARGE, Document, diagnostics, query_problems
 from .features import ABOUT_ALL, ABOUT_PLACES, CAPABILITIES, Asking, Later, Workspace, text_edits, uri_of, where
-from .helper import Helper
+from .findings import ERROR, WARNING, Problem
 from .layout import LeftError, lines_edits, node_edits, query_edits
 from .messages import CONTENT_MODIFIED, INTERNAL_ERROR, INVALID_PARAMS, INVALID_REQUEST, METHOD_NOT_FOUND
 from .messages import NOT_INITIALIZED, REQUEST_CANCELLED, REQUEST_FAILED, BrokenStream, Message
 from .messages import ProtocolError, decoded, member, read_body, write_message
 from .prometheus import Prometheus
-from .problems import ERROR, WARNING, Problem
 from .settings import Settings, path_of
-from .work import FORMAT, READ, Done, Job
+from .work import FORMAT, READ, Done, Helper, Job
 
 # A rule file is read again when nothing was written in it for so many seconds.
-PAUSE = 0.15
+PAUSE = 0.1
 # A request about a text that is not read yet waits so many seconds for that.
 PATIENCE = 2.0
 # One for which a Prometheus is asked waits so many seconds for that.

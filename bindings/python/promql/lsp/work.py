@@ -1,10 +1,16 @@
-"""The jobs that take long in large rule files, and the pipe over which they go to the process that does them (worker.py)."""
+"""The jobs that take long in large rule files, and the process that does them (worker.py): one at a time, which is ended where it takes too long."""
 
 from __future__ import annotations
 
-import pickle
-import struct
-from typing import IO, Any, Callable, Dict, NamedTuple
+import os
+import subprocess
+import sys
+import threading
+import time
+from contextlib import suppress
+from multiprocessing.connection import Connection, Pipe
+from pathlib import Path
+from typing import Any, Callable, Dict, List, NamedTuple, Optional
 
 from ..files import FileError
 from .findings import fix_edits, given_query
@@ -15,7 +21,6 @@ from .rules import file_of, problems_of
 from .settings import Settings
 
 READ, FORMAT, FIX, RENAME = "read", "format", "fix", "rename"
-_LENGTH = struct.Struct(">Q")
 
 
 class Job(NamedTuple):
@@ -37,21 +42,6 @@ class Done(NamedTuple):
     number: int
     result: Any
     failure: str = ""
-
-
-def send(stream: IO[bytes], value: Any) -> None:
-    data = pickle.dumps(value, protocol=4)
-    stream.write(_LENGTH.pack(len(data)) + data)
-    stream.flush()
-
-
-def receive(stream: IO[bytes]) -> Any:
-    """The next value, or nothing at the end."""
-    header = stream.read(_LENGTH.size)
-    if len(header) < _LENGTH.size:
-        return None
-    data = stream.read(_LENGTH.unpack(header)[0])
-    return pickle.loads(data)
 
 
 def _read(job: Job) -> Any:
@@ -80,3 +70,81 @@ def work(job: Job) -> Done:
         return Done(job.number, None, str(error).partition("\n")[0] or "left as it is")
     except (MemoryError, RecursionError) as error:
         return Done(job.number, None, f"left as it is: {type(error).__name__}")
+
+
+# A job ends after so many seconds, and one that is no longer wanted after fewer.
+LONGEST = 20.0
+LONGEST_OUTDATED = 1.0
+_TOO_LONG = "left as it is: it takes too long"
+
+
+class Helper:
+    """Does jobs, and gives each back by a call that another thread makes."""
+
+    def __init__(self, report: Callable[[Done], None]) -> None:
+        self._report = report
+        self._process: Optional["subprocess.Popen[bytes]"] = None
+        self._pipe: Optional[Connection] = None
+        self.job: Optional[Job] = None
+        self._since = 0.0
+
+    def submit(self, job: Job) -> None:
+        """Begins a job. There may be no other."""
+        self.job, self._since = job, time.monotonic()
+        if self._process is None or self._process.poll() is not None:
+            self._pipe, theirs = Pipe()
+            with theirs:
+                self._process = subprocess.Popen(_command(theirs.fileno()), pass_fds=[theirs.fileno()], **_SILENT, env=_environment())
+            threading.Thread(target=self._receive, args=(self._process, self._pipe), daemon=True).start()
+        # (a thread writes, since the process may not read at once)
+        threading.Thread(target=_send, args=(self._pipe, job), daemon=True).start()
+
+    def done(self) -> None:
+        self.job = None
+
+    def end_late(self, is_wanted: bool) -> Optional[Done]:
+        """Ends the job where it takes too long, and returns that it failed."""
+        if not self.job or time.monotonic() - self._since < (LONGEST if is_wanted else LONGEST_OUTDATED):
+            return None
+        job = self.job
+        self.close()
+        return Done(job.number, None, _TOO_LONG)
+
+    def close(self) -> None:
+        process, self._process, self.job = self._process, None, None
+        if process:
+            process.kill()
+            process.wait()
+
+    def _receive(self, process: "subprocess.Popen[bytes]", pipe: Connection) -> None:
+        while True:
+            try:
+                done = pipe.recv()
+            except Exception:  # (what is left of an answer when the process is killed)
+                pipe.close()
+                job = self.job
+                if job and self._process is process:
+                    self._report(Done(job.number, None, "left as it is: the process that reads it ended"))
+                return
+            if self._process is process:
+                self._report(done)
+
+
+def _send(pipe: Connection, job: Job) -> None:
+    # (where the process ended, `_receive` tells it)
+    with suppress(OSError, ValueError):
+        pipe.send(job)
+
+
+# (what anything writes there would be read by the editor)
+_SILENT: Dict[str, Any] = {"stdin": subprocess.DEVNULL, "stdout": subprocess.DEVNULL}
+
+
+def _command(pipe: int) -> List[str]:
+    return [sys.executable, "-m", f"{__package__}.worker", str(pipe)]
+
+
+def _environment() -> Dict[str, str]:
+    """That of this process, in which the package is found where it is found here."""
+    here = str(Path(__file__).resolve().parents[2])
+    return {**os.environ, "PYTHONPATH": os.pathsep.join(filter(None, [here, os.environ.get("PYTHONPATH", "")]))}

@@ -4,21 +4,14 @@ from __future__ import annotations
 
 import gc
 import sys
+from contextlib import suppress
+from multiprocessing.connection import Connection
 
-from .work import receive, send, work
-
-
-def main() -> None:
-    source, target = sys.stdin.buffer, sys.stdout.buffer
-    gc.set_threshold(100_000)
-    # (what else writes there would be read as an answer)
-    sys.stdout = sys.stderr
-    while True:
-        job = receive(source)
-        if job is None:
-            return
-        send(target, work(job))
-
+from .work import work
 
 if __name__ == "__main__":
-    main()
+    gc.set_threshold(100_000)
+    # (the server ends it, or is gone)
+    with suppress(EOFError, OSError), Connection(int(sys.argv[1])) as pipe:
+        while True:
+            pipe.send(work(pipe.recv()))

@@ -1,14 +1,15 @@
-"""Which labels the series of an expression may have, and which they surely have, as far as the query tells
-(docs/reference/label-flow.md)."""
+"""What a query tells of the series of an expression: which labels they may have and surely have (docs/reference/label-flow.md), and between which
+numbers their values are."""
 
 from __future__ import annotations
 
-from typing import Callable, Dict, FrozenSet, NamedTuple, Optional, Set, Tuple
+from math import inf, isnan
+from typing import Callable, Dict, FrozenSet, Generic, NamedTuple, Optional, Set, Tuple, TypeVar
 
 from . import patterns
-from .findings import Tree
-from .trees import NAME, fills, inner, matching_of
+from .findings import NAME, Tree, fills, inner, is_comparison, matching_of, number_of
 
+Told = TypeVar("Told")
 _NONE: FrozenSet[str] = frozenset()
 # The aggregations that give some of their series as they are.
 _CHOOSING = ("topk", "bottomk", "limitk", "limit_ratio")
@@ -78,22 +79,33 @@ _EMPTY = Labels(_NONE)
 _ANY = Labels()
 
 
-class LabelFlow:
-    """The labels of the series of each node, of which each is looked at once."""
+class _Flow(Generic[Told]):
+    """What is told of the series of each node, of which each is looked at once, by a method for its type."""
 
-    def __init__(self, recorded: Callable[[str], Optional[Labels]] = lambda name: None) -> None:
-        # The labels of a metric that a rule records, where they are known.
-        self._recorded = recorded
-        self._found: Dict[int, Labels] = {}
-        self._scalars: Dict[int, bool] = {}
+    def __init__(self, others: Told) -> None:
+        self._others = others
+        self._found: Dict[int, Told] = {}
 
-    def of(self, node: Tree) -> Labels:
-        """The labels of the series of an expression."""
+    def of(self, node: Tree) -> Told:
+        """What is told of the series of an expression."""
         node = inner(node)
         if id(node) not in self._found:
-            read: Callable[[Tree], Labels] = getattr(self, f"_of_{node['type']}", lambda node: _EMPTY)
+            read: Callable[[Tree], Told] = getattr(self, f"_of_{node['type']}", lambda node: self._others)
             self._found[id(node)] = read(node)
         return self._found[id(node)]
+
+    def _of_subquery(self, node: Tree) -> Told:
+        return self.of(node["expr"])
+
+
+class LabelFlow(_Flow[Labels]):
+    """The labels of series."""
+
+    def __init__(self, recorded: Callable[[str], Optional[Labels]] = lambda name: None) -> None:
+        super().__init__(_EMPTY)
+        # The labels of a metric that a rule records, where they are known.
+        self._recorded = recorded
+        self._scalars: Dict[int, bool] = {}
 
     def is_scalar(self, node: Tree) -> bool:
         """Whether an expression is a number, and not series."""
@@ -123,10 +135,7 @@ class LabelFlow:
 
     _of_matrixSelector = _of_vectorSelector
 
-    def _of_unaryExpr(self, node: Tree) -> Labels:
-        return self.of(node["expr"])
-
-    _of_subquery = _of_unaryExpr
+    _of_unaryExpr = _Flow._of_subquery
 
     def _of_aggregation(self, node: Tree) -> Labels:
         below = self.of(node["expr"])
@@ -201,3 +210,95 @@ def _of_absent(node: Tree) -> Labels:
         else:
             labels.pop(name, None)
     return Labels(frozenset(labels), _NONE, frozenset(labels), values=frozenset(labels.items()))
+
+
+TURNED = {"<": ">", ">": "<", "<=": ">=", ">=": "<=", "==": "==", "!=": "!="}
+# A number, or what is next to it: a little less with -1, a little more with 1.
+_Bound = Tuple[float, int]
+
+
+class Range(NamedTuple):
+    """The numbers from `low` to `high`; whether there may be values that are no numbers."""
+
+    low: _Bound = (-inf, 0)
+    high: _Bound = (inf, 0)
+    has_nan: bool = False
+
+    def is_empty(self) -> bool:
+        return self.low > self.high
+
+    def within(self, other: Range) -> Range:
+        """The numbers of both."""
+        return Range(max(self.low, other.low), min(self.high, other.high), self.has_nan and other.has_nan)
+
+    def around(self, other: Range) -> Range:
+        """The least range that has the numbers of each."""
+        return Range(min(self.low, other.low), max(self.high, other.high), self.has_nan or other.has_nan)
+
+    def __str__(self) -> str:
+        low = f"{'more than' if self.low[1] else 'at least'} {self.low[0]:g}" if self.low[0] > -inf else ""
+        high = f"{'less than' if self.high[1] else 'at most'} {self.high[0]:g}" if self.high[0] < inf else ""
+        return " and ".join(filter(None, (low, high)))
+
+
+def _whole(low: float, high: float = inf) -> Range:
+    return Range((low, 0), (high, 0))
+
+
+_ANY_VALUE = Range(has_nan=True)
+_ONE, _NOT_NEGATIVE = _whole(1, 1), Range((0, 0), has_nan=True)
+_TIMES = {"minute": (0, 59), "hour": (0, 23), "day_of_week": (0, 6), "day_of_month": (1, 31), "days_in_month": (28, 31)}
+_TIMES.update({"day_of_year": (1, 366), "month": (1, 12)})
+_CALLS = {
+    **dict.fromkeys(("absent", "absent_over_time", "present_over_time"), _ONE),
+    **dict.fromkeys(("changes", "resets"), _whole(0)),
+    **dict.fromkeys(("abs", "sqrt", "stddev_over_time", "stdvar_over_time"), _NOT_NEGATIVE),
+    "count_over_time": _whole(1),
+    **{name: _whole(*ends) for name, ends in _TIMES.items()},
+}
+_AGGREGATIONS = {"count": _whole(1), "group": _ONE, "stddev": _NOT_NEGATIVE, "stdvar": _NOT_NEGATIVE}
+# What gives values that are among those below it.
+_KEEPING = ("bottomk", "limit_ratio", "limitk", "max", "min", "topk", "label_join", "label_replace", "sort", "sort_desc")
+_KEEPING_OF_RANGES = ("last_over_time", "max_over_time", "min_over_time")
+
+
+def passing(operator: str, number: float) -> Range:
+    """The numbers for which a comparison with a number is true, or those around them."""
+    if operator == "!=" or isnan(number):
+        return _ANY_VALUE
+    low = (number, int(operator == ">")) if operator in (">", ">=", "==") else (-inf, 0)
+    high = (number, -int(operator == "<")) if operator in ("<", "<=", "==") else (inf, 0)
+    return Range(low, high)
+
+
+class ValueFlow(_Flow[Range]):
+    """The values of series."""
+
+    def __init__(self) -> None:
+        super().__init__(_ANY_VALUE)
+
+    def _of_aggregation(self, node: Tree) -> Range:
+        return self.of(node["expr"]) if node["op"] in _KEEPING else _AGGREGATIONS.get(node["op"], _ANY_VALUE)
+
+    def _of_call(self, node: Tree) -> Range:
+        name = node["func"]["name"]
+        return self.of(node["args"][0]) if name in _KEEPING + _KEEPING_OF_RANGES else _CALLS.get(name, _ANY_VALUE)
+
+    def _of_binaryExpr(self, node: Tree) -> Range:
+        left, right = node["lhs"], node["rhs"]
+        if node["op"] == "or":
+            return self.of(left).around(self.of(right))
+        if not is_comparison(node) or fills(node):
+            return self.of(left) if node["op"] in ("and", "unless") else _ANY_VALUE
+        if node["bool"]:
+            return _whole(0, 1)
+        compared, values = condition(node)
+        return self.of(compared).within(values)
+
+
+def condition(node: Tree) -> Tuple[Tree, Range]:
+    """What a comparison gives, and which values of that a number on the other side lets through."""
+    left, right = number_of(node["lhs"]), number_of(node["rhs"])
+    if left is not None:
+        return inner(node["rhs"]), passing(TURNED[node["op"]], left)
+    return inner(node["lhs"]), _ANY_VALUE if right is None else passing(node["op"], right)
