@@ -1,4 +1,5 @@
-"""The calls of libpromql.so by ctypes, over bytes and over texts: promql.h says what each does, and _answers.py what they give. The extension (_native.c) has the same."""
+"""The calls of libpromql.so by ctypes, over bytes and over texts: promql.h says what each does, and _answers.py what they give. The extension
+(_native.c) has the same."""
 
 from __future__ import annotations
 
