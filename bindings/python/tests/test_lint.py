@@ -186,6 +186,11 @@ FOUND = (
     ("P601", "((a + b)) * 2", "((a + b))", "(a + b) * 2"),
     ("P601", "sum(a) / (sum(b)) # (c)", "(sum(b))", "sum(a) / sum(b) # (c)"),
     ("P602", "a{ } + b{c='d'}", "{ }", "a + b{c='d'}"),
+    ("P901", "up / -0", "-", None),
+    ("P901", "up{a='\\xc3'}", "\\xc3", None),
+    ("P902", "exp(1)", "exp", None),
+    ("P902", 'up{a="b" or c="d"}', "or", None),
+    ("P902", "1 + rate(+x[5m])", "+", None),
 )
 # For each code queries in which it is not found.
 NOT_FOUND = (
@@ -324,6 +329,9 @@ NOT_FOUND = (
     ("P601", "(a > 1) and (b > 2)"),
     ("P601", "(-a) ^ 2"),
     ("P602", "up{a='b'}"),
+    ("P901", "exp(1)"),
+    ("P902", "up / -0"),
+    ("P902", "a[300] + and offset +5m + step()"),
 )
 
 

@@ -12,7 +12,7 @@ from typing import Callable, Iterable, Iterator, List, Optional
 
 import promql
 
-from . import alert_rules, counter_rules, label_rules, matcher_rules, operator_rules, style_rules
+from . import alert_rules, counter_rules, label_rules, matcher_rules, operator_rules, style_rules, target_rules
 from .comments import Ignored, ignored_in
 from .findings import Finding, Fix, Severity, Span, TextEdit, Tree
 from .fixes import FixChecker, all_fixed
@@ -35,7 +35,7 @@ __all__ = [
 ]
 
 # The modules whose functions are the rules of the table.
-_MODULES = (matcher_rules, counter_rules, operator_rules, label_rules, alert_rules, style_rules)
+_MODULES = (matcher_rules, counter_rules, operator_rules, label_rules, alert_rules, style_rules, target_rules)
 _UNCOMPARED = "its patterns and values are too large together to be compared: P108 and P109 are not looked for in patterns"
 _LONGEST = 500
 # Functions that are gone, and what is there for them.

@@ -195,6 +195,11 @@ class Subject:
         return Places(self.text, self.nodes)
 
     @cached_property
+    def differences(self) -> List[promql.Difference]:
+        """What the target reads otherwise of the query, or rejects."""
+        return promql.differences(self.text)
+
+    @cached_property
     def labels(self) -> LabelFlow:
         """Which labels the series of each node may have."""
         return LabelFlow(self.context.records.labels_of)
