@@ -38,9 +38,9 @@ func TestTokens(t *testing.T) {
 }
 
 func TestDifferences(t *testing.T) {
-	found, err := promql.Differences("exp(1) + -0")
+	found, err := promql.Differences("exp(Inf) + -0")
 	wanted := []promql.Difference{
-		{IsRejected: false, Place: promql.Place{Start: 9, End: 10}, Message: "Prometheus reads this otherwise: the number is negative zero there, and zero here"},
+		{IsRejected: false, Place: promql.Place{Start: 11, End: 12}, Message: "Prometheus reads this otherwise: the number is negative zero there, and zero here"},
 		{IsRejected: true, Place: promql.Place{Start: 0, End: 3}, Message: "Prometheus 3 rejects this: the argument is an instant vector there; write vector(..) around the number"},
 	}
 	if err != nil || !reflect.DeepEqual(found, wanted) {

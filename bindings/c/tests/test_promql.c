@@ -530,15 +530,15 @@ static void test_parts(void)
 static void test_differences(void)
 {
     CHECK(gives(of_query(CALL_DIFFERENCES, "a"), PROMQL_OK, "[]"));
-    CHECK(gives(of_query(CALL_DIFFERENCES, "exp(1) + -0"), PROMQL_OK,
-                "[[23,9,10,\"Prometheus reads this otherwise: the number is negative zero there, and zero here\"],"
+    CHECK(gives(of_query(CALL_DIFFERENCES, "exp(Inf) + -0"), PROMQL_OK,
+                "[[23,11,12,\"Prometheus reads this otherwise: the number is negative zero there, and zero here\"],"
                 "[24,0,3,\"Prometheus 3 rejects this: the argument is an instant vector there; write vector(..) around the number\"]]"));
-    CHECK(gives(of_query(CALL_DIFFERENCES, "a[300] + and offset 5m"), PROMQL_OK, "[]"));
+    CHECK(gives(of_query(CALL_DIFFERENCES, "rate(a[300]) + and offset 5m"), PROMQL_OK, "[]"));
     promql_set_target(2);
     CHECK(gives(of_query(CALL_DIFFERENCES, "a[300]"), PROMQL_OK,
                 "[[24,2,5,\"Prometheus 2.42 rejects this: a length of time without a unit is of a later version; write 300s for 300\"]]"));
     promql_set_target(1);
-    CHECK(gives(of_query(CALL_DIFFERENCES, "exp(1) + -0"), PROMQL_OK, "[]"));
+    CHECK(gives(of_query(CALL_DIFFERENCES, "exp(Inf) + -0"), PROMQL_OK, "[]"));
     promql_set_target(0);
     CHECK(gives(of_query(CALL_DIFFERENCES, "1 +"), PROMQL_REJECTED, "invalid promql query"));
     CHECK(has_place(of_query(CALL_DIFFERENCES, "1 +"), 3, 3, 1, 4));

@@ -404,7 +404,7 @@ def differences(query: str) -> List[Difference]:
 
     `check` raises ReadOtherwiseError or RefusedError for the first of them.
 
-    >>> promql.differences("exp(1)")
+    >>> promql.differences("exp(Inf)")
     [Difference(is_rejected=True, start=0, end=3, message='Prometheus 3 rejects this: the argument is an instant vector there; \
 write vector(..) around the number')]
     """

@@ -188,7 +188,7 @@ FOUND = (
     ("P602", "a{ } + b{c='d'}", "{ }", "a + b{c='d'}"),
     ("P901", "up / -0", "-", None),
     ("P901", "up{a='\\xc3'}", "\\xc3", None),
-    ("P902", "exp(1)", "exp", None),
+    ("P902", "exp(Inf)", "exp", None),
     ("P902", 'up{a="b" or c="d"}', "or", None),
     ("P902", "1 + rate(+x[5m])", "+", None),
 )
@@ -329,9 +329,9 @@ NOT_FOUND = (
     ("P601", "(a > 1) and (b > 2)"),
     ("P601", "(-a) ^ 2"),
     ("P602", "up{a='b'}"),
-    ("P901", "exp(1)"),
+    ("P901", "exp(Inf)"),
     ("P902", "up / -0"),
-    ("P902", "a[300] + and offset +5m + step()"),
+    ("P902", "rate(a[300]) + and offset +5m + step()"),
 )
 
 
@@ -425,7 +425,7 @@ class Rules(unittest.TestCase):
         self.assertEqual([it.code for it in lint(query, ignore=("P1",))], [])
         self.assertEqual(lint("up{a=~'b'} # promql: ignore"), [])
         self.assertEqual(len(lint("up{a=~'b'} + on () up{c='# promql: ignore'}")), 1)
-        for words in (("P9",), ("x",)):
+        for words in (("P99",), ("x",)):
             with self.assertRaises(ValueError):
                 lint("up", select=words)
 

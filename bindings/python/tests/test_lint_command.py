@@ -110,7 +110,7 @@ class Queries(Folder):
         self.assertIn("P202", run("lint", "--query", query, "--select", "P2").out)
         self.assertEqual(run("lint", "--query", query, "--select", "P3", "--select", "P4").status, 0)
         self.assertEqual(run("lint", "--query", query, "--select", "all", "--ignore", "P").status, 0)
-        for words in ("P9", "x", ","):
+        for words in ("P99", "x", ","):
             ran = run("lint", "--query", query, "--select", words)
             self.assertEqual(ran.status, 64)
             self.assertIn("no rule has a code that begins with", ran.err)

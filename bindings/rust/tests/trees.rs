@@ -292,10 +292,10 @@ fn nodes_have_parts() {
 
 #[test]
 fn differences_are_told() {
-    let found = differences("exp(1) + -0").unwrap();
+    let found = differences("exp(Inf) + -0").unwrap();
     let shown: Vec<_> = found.iter().map(|it| (it.is_rejected, it.range.clone(), it.message.as_str())).collect();
     let wanted = [
-        (false, 9..10, "Prometheus reads this otherwise: the number is negative zero there, and zero here"),
+        (false, 11..12, "Prometheus reads this otherwise: the number is negative zero there, and zero here"),
         (true, 0..3, "Prometheus 3 rejects this: the argument is an instant vector there; write vector(..) around the number"),
     ];
     assert_eq!(shown, wanted);
