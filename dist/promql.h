@@ -141,6 +141,12 @@ uint32_t promql_places(const char *query, size_t query_length, char *buffer, siz
 uint32_t promql_parts(const char *query, size_t query_length, char *buffer, size_t buffer_size,
                       struct promql_result *result);
 
+/* Shows what the target (promql_set_target) reads otherwise of a query than these rules do, and then what it rejects of it, as JSON: an array
+ * with an array for each such part: the status that promql_check has for it, PROMQL_READ_OTHERWISE or PROMQL_REFUSED, the bytes from and up to
+ * which it goes, and a message, as [24,0,4,"Prometheus 3 rejects this: .."] (docs/guide/bindings.md, "Differences"). */
+uint32_t promql_differences(const char *query, size_t query_length, char *buffer, size_t buffer_size,
+                            struct promql_result *result);
+
 /* Shows the tokens of any text, accepted as a query or not, as JSON: an array with an array for each token in their order: its kind, and the
  * bytes from and up to which it goes, as ["name",0,3]. Comments are among them, and what no token begins with, of the kind "error"; white
  * space alone is between them (docs/guide/bindings.md, "Tokens"). A text that is longer than a query may be gives PROMQL_TOO_LARGE, and
