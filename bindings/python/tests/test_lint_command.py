@@ -287,7 +287,7 @@ class Files(Folder):
         for line, codes in found.items():
             self.assertIn(wanted[line], codes)
         self.assertGreater(len(found), 55)
-        self.assertEqual([codes for codes in found.values() if len(codes) > 1], [{"P103", "P109", "P405"}])
+        self.assertEqual([codes for codes in found.values() if len(codes) > 1], [{"P103", "P109", "P405", "P901"}])
 
     def rules(self, *rules, labels=""):
         """A file with one group of these rules."""
