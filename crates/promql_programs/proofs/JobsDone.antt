@@ -9,7 +9,7 @@ use Rattle.promql_run.specs.declared.ended.Ended.{Ended}
 use Rattle.promql_span.specs.declared.limits.Limits.{Limits}
 use Rattle.promql_programs.specs.EnforcedAnswers.{IsEnforcedAnswer}
 use Rattle.promql_programs.specs.Jobs.{DoesJob, IsQuiet, first_of}
-use Rattle.promql_programs.specs.Tasks.{FailsInput, IsInputAnswer, IsSilent}
+use Rattle.promql_programs.specs.Tasks.{FailsInput, IsInputAnswer, Warns}
 use Rattle.promql_programs.specs.declared.job.Job.{Job}
 use Rattle.promql_programs.specs.declared.job.Job.TheVariants as job
 
@@ -23,14 +23,14 @@ module _ {R W E : Type 0} (remaining : R → Option (List ℕ)) (contents : W �
   -- the matcher is the first operand
   pub enforced : (wanted : Job) (limits : Limits) (matcher : Text) → wanted ≡ job.Enforce limits → matcher ≡ first_of operands
       → AnswersQuery remaining contents (IsInputAnswer is_file (IsEnforcedAnswer limits matcher)) query_error_number
-      (FailsInput is_file (λ e query. IsEnforcedLine limits query matcher (Err e))) IsSilent reader reader_after writer writer_after errors errors_after status
+      (FailsInput is_file (λ e query. IsEnforcedLine limits query matcher (Err e))) (Warns said is_file prefix limits.target) reader reader_after writer writer_after errors errors_after status
       → IsQuiet writer_after errors errors_after status
       → DoesJob remaining contents said wanted operands is_file prefix reader reader_after writer writer_after errors errors_after status
   enforced wanted limits matcher is first answers quiet =
       asked wanted (job.Enforce limits) is (
         subst
             (λ matcher. AnswersQuery remaining contents (IsInputAnswer is_file (IsEnforcedAnswer limits matcher)) query_error_number
-            (FailsInput is_file (λ e query. IsEnforcedLine limits query matcher (Err e))) IsSilent reader reader_after writer writer_after errors errors_after status)
+            (FailsInput is_file (λ e query. IsEnforcedLine limits query matcher (Err e))) (Warns said is_file prefix limits.target) reader reader_after writer writer_after errors errors_after status)
             first answers,
         quiet,
       )

@@ -8,3 +8,4 @@ mod LayoutFailures
 mod NumberOptions
 mod OptionSteps
 mod SplitWords
+mod WarnedAnswers

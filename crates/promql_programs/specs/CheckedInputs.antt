@@ -10,11 +10,11 @@ use Rattle.promql_span.specs.Visible.{visible}
 use Rattle.promql_programs.specs.Checking.{IsReported, IsSilent, IsWarned}
 use Rattle.promql_programs.specs.Reports.{report_text}
 use Rattle.promql_programs.specs.Sources.{IsQueryIn, IsTextIn}
-use Rattle.promql_programs.specs.declared.check.TheConstants.{BYTE_ESCAPE, WARNING}
+use Rattle.promql_programs.specs.declared.check.TheConstants.{BYTE_ESCAPE}
 use Rattle.promql_programs.specs.declared.check.Checked.{Checked}
 use Rattle.promql_programs.specs.declared.check.Checked.TheVariants.{Accepted, Warned, Rejected}
 use Rattle.promql_programs.specs.declared.check_settings.CheckSettings.{CheckSettings}
-use Rattle.promql_programs.specs.declared.reports.TheConstants.{BYTE_ORDER_MARK}
+use Rattle.promql_programs.specs.declared.reports.TheConstants.{BYTE_ORDER_MARK, WARNING}
 use Rattle.promql_programs.specs.declared.source.Source.{Source}
 
 -- of a query

@@ -17,9 +17,9 @@ use Rattle.promql_run.specs.declared.colors.TheConstants.{MAGENTA}
 use Rattle.promql_run.specs.declared.ended.Ended.{Ended}
 use Rattle.promql_programs.specs.Reports.{report_text}
 use Rattle.promql_programs.specs.Sources.{IsQueryIn, IsTextIn}
-use Rattle.promql_programs.specs.declared.check.TheConstants.{BYTE_ESCAPE, LIMIT_STATUS, OTHERWISE_STATUS, REFUSED_STATUS, REJECTED_STATUS, WARNING}
+use Rattle.promql_programs.specs.declared.check.TheConstants.{BYTE_ESCAPE, LIMIT_STATUS, OTHERWISE_STATUS, REFUSED_STATUS, REJECTED_STATUS}
 use Rattle.promql_programs.specs.declared.check_settings.CheckSettings.{CheckSettings}
-use Rattle.promql_programs.specs.declared.reports.TheConstants.{BYTE_ORDER_MARK}
+use Rattle.promql_programs.specs.declared.reports.TheConstants.{BYTE_ORDER_MARK, WARNING}
 
 -- the input has a query of which this is so
 abbrev pub HasQuery : (is_file : Bool) → (Text → Type 0) → Option (List ℕ) → Option (List ℕ) → Type 0

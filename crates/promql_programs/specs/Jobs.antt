@@ -16,7 +16,7 @@ use Rattle.promql_programs.specs.EnforcedAnswers.{IsEnforcedAnswer}
 use Rattle.promql_programs.specs.FormatSettings.{format_settings_of}
 use Rattle.promql_programs.specs.Layouts.{IsFormatAnswer}
 use Rattle.promql_programs.specs.LimitOptions.{default_limits, limits_with}
-use Rattle.promql_programs.specs.Tasks.{FailsInput, FailsToPrint, IsInputAnswer, IsSilent}
+use Rattle.promql_programs.specs.Tasks.{FailsInput, FailsToPrint, IsInputAnswer, IsSilent, Warns}
 use Rattle.promql_programs.specs.declared.job.Job.{Job}
 use Rattle.promql_programs.specs.declared.job.Job.TheVariants as job
 use Rattle.promql_programs.specs.declared.job.Subcommand.{Subcommand}
@@ -89,11 +89,11 @@ abbrev pub DoesJob : {R W E : Type 0} → (R → Option (List ℕ)) → (W → O
 DoesJob remaining contents said (job.Print format) operands is_file prefix = PrintsQuery remaining contents format is_file
 DoesJob remaining contents said (job.Format s) operands is_file prefix = λ reader reader_after writer writer_after errors errors_after status.
     AnswersQuery remaining contents (IsInputAnswer is_file (λ query answer. IsFormatAnswer s query (Ok answer))) query_error_number
-    (FailsInput is_file (λ e query. IsFormatAnswer s query (Err e))) IsSilent reader reader_after writer writer_after errors errors_after status
+    (FailsInput is_file (λ e query. IsFormatAnswer s query (Err e))) (Warns said is_file prefix s.limits.target) reader reader_after writer writer_after errors errors_after status
     × IsQuiet writer_after errors errors_after status
 DoesJob remaining contents said (job.Enforce limits) operands is_file prefix = λ reader reader_after writer writer_after errors errors_after status.
     AnswersQuery remaining contents (IsInputAnswer is_file (IsEnforcedAnswer limits (first_of operands))) query_error_number
-    (FailsInput is_file (λ e query. IsEnforcedLine limits query (first_of operands) (Err e))) IsSilent reader reader_after writer writer_after errors errors_after status
+    (FailsInput is_file (λ e query. IsEnforcedLine limits query (first_of operands) (Err e))) (Warns said is_file prefix limits.target) reader reader_after writer writer_after errors errors_after status
     × IsQuiet writer_after errors errors_after status
 DoesJob remaining contents said (job.Check s) operands is_file prefix = λ reader reader_after writer writer_after errors errors_after status.
     ChecksQuery remaining said s is_file prefix reader reader_after errors errors_after status × (writer_after ≡ writer)

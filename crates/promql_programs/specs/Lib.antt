@@ -11,4 +11,5 @@ pub mod LimitOptions
 pub mod Reports
 pub mod Sources
 pub mod Tasks
+pub mod Warnings
 pub mod Words

@@ -15,7 +15,7 @@ ghost use Rattle.promql_run.specs.Inputs.{IsInput, IsNotUtf8};
 ghost use Rattle.promql_run.specs.StepErrors.{IsInputError};
 
 use crate::check_settings::CheckSettings;
-use crate::reports::{report, report_rejection, say};
+use crate::reports::{WARNING, report, report_rejection, say};
 use crate::source::Source;
 use promql_ast::drop_expr;
 use promql_report::rejection::read_query;
@@ -38,9 +38,6 @@ pub const OTHERWISE_STATUS: u8 = 23;
 
 /// The status where the target rejects the query.
 pub const REFUSED_STATUS: u8 = 24;
-
-/// What the message of an accepted query begins with.
-const WARNING: &str = "warning: ";
 
 /// What is said of a byte escape: docs/reference/texts.md, "Byte escapes".
 const BYTE_ESCAPE: &str = "this escape is a character here, and a byte in Prometheus";

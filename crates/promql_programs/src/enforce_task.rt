@@ -9,6 +9,7 @@ use crate::task::Task;
 use promql_lines::enforced_line::enforced_line;
 use promql_lines::query_error::QueryError;
 use promql_rewrite::MatcherError;
+use promql_span::Target;
 use promql_span::limits::Limits;
 use std::alloc::{AllocError, Global};
 
@@ -30,8 +31,14 @@ impl<'a> Task for Enforce<'a> {
 
     ghost fails = { λ task e query. IsEnforcedLine task.limits query task.matcher.now (Err e) };
 
+    ghost served = { λ task. task.limits.target };
+
     fn answer(&self, alloc: Global, query: &str) -> Result<String, QueryError> {
         enforced_answer(alloc, &self.limits, query, self.matcher)
+    }
+
+    fn target(&self) -> Target {
+        self.limits.target
     }
 
     fn reason(&self, alloc: Global, error: &QueryError) -> Result<Option<String>, AllocError> {

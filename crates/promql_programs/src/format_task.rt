@@ -4,6 +4,7 @@ use crate::format_settings::FormatSettings;
 use crate::query_layout::query_layout;
 use crate::task::Task;
 use promql_lines::query_error::QueryError;
+use promql_span::Target;
 use std::alloc::Global;
 
 impl Task for FormatSettings {
@@ -14,7 +15,13 @@ impl Task for FormatSettings {
 
     ghost fails = { λ settings e query. IsFormatAnswer settings query (Err e) };
 
+    ghost served = { λ settings. settings.limits.target };
+
     fn answer(&self, alloc: Global, query: &str) -> Result<String, QueryError> {
         query_layout(alloc, self, query)
+    }
+
+    fn target(&self) -> Target {
+        self.limits.target
     }
 }

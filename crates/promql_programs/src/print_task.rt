@@ -21,6 +21,7 @@ use promql_lines::rejected_query::RejectedQuery;
 use promql_report::rejection::{Reason, Rejection};
 use promql_run::format::Format;
 use promql_run::rendering::shown_text;
+use promql_span::Target;
 use promql_span::diagnosis::{Diagnosis, diagnose};
 use std::alloc::Global;
 
@@ -34,10 +35,13 @@ pub struct Print {
 impl Task for Print {
     ghost use Rattle.promql_run.specs.Running.{IsPrinted};
     ghost use Rattle.promql_programs.specs.Tasks.{FailsToPrint};
+    ghost use Rattle.promql_span.specs.declared.target.Target.TheVariants.{Rules};
 
     ghost makes = { λ task. IsPrinted task.format };
 
     ghost fails = { λ task. FailsToPrint task.format };
+
+    ghost served = { λ _. Rules };
 
     fn answer(&self, alloc: Global, query: &str) -> Result<String, QueryError> {
         match diagnose(alloc, query) {
@@ -48,6 +52,10 @@ impl Task for Print {
             }
             Err(diagnosis) => Err(rejected(query, diagnosis)),
         }
+    }
+
+    fn target(&self) -> Target {
+        Target::Rules
     }
 }
 

@@ -1,22 +1,29 @@
 //! What is said of a query that is rejected, for people: docs/reference/programs.md, "One query, checked".
 
-ghost use Rattle.std.specs.Prelude.{◌≡◌, ◌⊎◌, ◌++◌, IfOk, encode_utf8_all, string_bytes};
+ghost use Rattle.std.specs.Prelude.{◌≡◌, ◌⊎◌, ◌++◌, [], if◌then◌else◌, IfOk, codes, encode_utf8_all, option_map, string_bytes};
 ghost use Rattle.std.specs.Str.{chars};
+ghost use Rattle.promql_text.specs.Texts.{Text};
 ghost use Rattle.promql_span.specs.Visible.{visible};
 ghost use Rattle.promql_programs.specs.CheckedInputs.{IsReport};
 ghost use Rattle.promql_programs.specs.Reports.{report_text};
+ghost use Rattle.promql_programs.specs.Tasks as spec;
+ghost use Rattle.promql_programs.specs.Warnings.{IsWarning};
 
 use crate::check::query_in;
 use crate::source::Source;
 use promql_lines::query_error::QueryError;
-use promql_report::rejection::Rejection;
+use promql_report::rejection::{Reason, Rejection};
 use promql_run::colors::{BOLD, GREEN, push_marked, push_painted};
 use promql_run::ended::Ended;
 use promql_run::writing::write_text;
-use promql_span::{Location, Span, end_of_text, snippet, visible};
+use promql_span::{Location, Span, Target, end_of_text, snippet, visible};
+use promql_target::{Refusal, first_refusal};
 use std::alloc::{AllocError, Global};
 use std::fmt;
 use std::io::Write;
+
+/// What is said first of a query that has an answer all the same.
+pub(crate) const WARNING: &str = "warning: ";
 
 /// What is said of the error of a query that begins with a byte order mark.
 pub(crate) const BYTE_ORDER_MARK: &str = ", a byte order mark at the start of the text";
@@ -158,4 +165,74 @@ fn with_note(query: &str, message: String) -> Result<String, AllocError>
         said.push_str(BYTE_ORDER_MARK)?;
     }
     Ok(said)
+}
+
+/// What a message begins with that has no place in its source: the name of a file and a space.
+fn opening(alloc: Global, source: &Source) -> Result<String, AllocError>
+    ensures { IfOk result (λ s. string_bytes s
+        ≡ if source.now.is_file then string_bytes source.now.prefix ++ codes " " else []) }
+{
+    let mut opening = String::new(alloc);
+    if source.is_file {
+        opening.push_str(source.prefix.as_str())?;
+        opening.push_str(" ")?;
+    }
+    Ok(opening)
+}
+
+/// A warning of this part of an answer.
+fn warning_text(
+    alloc: Global,
+    source: &Source,
+    answer: &str,
+    span: Span,
+    message: &str,
+) -> Result<String, AllocError>
+    ensures { IfOk result (λ s. string_bytes s ≡ spec.warning_text source.now.is_file (string_bytes source.now.prefix) answer.now span message.now) }
+{
+    let mut warning = opening(alloc, source)?;
+    let marked = snippet(alloc, answer, span)?;
+    warning.push_str(WARNING)?;
+    warning.push_str(message)?;
+    warning.push_str("\n")?;
+    warning.push_str(marked.as_str())?;
+    warning.push_str("\n")?;
+    Ok(warning)
+}
+
+/// The warning of an answer of which this target rejects a part.
+fn refusal_warning(
+    alloc: Global,
+    source: &Source,
+    target: Target,
+    answer: &str,
+    refusal: Refusal,
+) -> Result<String, AllocError>
+    ensures { IfOk result (λ s. (message : Text)
+        × (string_bytes s ≡ spec.warning_text source.now.is_file (string_bytes source.now.prefix) answer.now refusal.span message)) }
+{
+    let Refusal { kind, span } = refusal;
+    let message = Reason::Refused(target, kind).to_string(alloc)?;
+    warning_text(alloc, source, answer, span, message.as_str())
+}
+
+/// The warning of an answer for this target; `None` where the target is not known to reject a part of it.
+pub(crate) fn warning_of(
+    alloc: Global,
+    source: &Source,
+    target: Target,
+    answer: &str,
+) -> Result<Option<String>, AllocError>
+    ensures { IfOk result (λ warning. IsWarning source.now.is_file (string_bytes source.now.prefix) target answer.now (option_map string_bytes warning)) }
+{
+    if target == Target::Rules {
+        return Ok(None);
+    }
+    match first_refusal(target, answer) {
+        Some(refusal) => {
+            let warning = refusal_warning(alloc, source, target, answer, refusal)?;
+            Ok(Some(warning))
+        }
+        None => Ok(None),
+    }
 }

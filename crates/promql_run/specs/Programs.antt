@@ -12,15 +12,14 @@ pub record Reads {R : Type 0} (remaining : R → Option (List ℕ)) (reader read
   pub quiet : status ≢ 2 → reader_after.failed ≡ reader.failed
   pub not_utf8 : status ≡ 3 → IsNotUtf8 (remaining reader.inner) (remaining reader_after.inner)
 
--- it ends with 0 where the answer to the text of its input was written, and what is to be said of that was said, and else with the status of why
--- that has none
+-- it ends with 0 where the answer to the text of its input was written, and what is to be said of the answer was said, and else with the status of
+-- why there is none
 pub record AnswersQuery {R W E Error : Type 0} (remaining : R → Option (List ℕ)) (contents : W → Option (List ℕ)) (IsAnswer : Text → Text → Type 0) (number : Error → ℕ) (Fails : Error → Text → Type 0)
     (Says : Text → Ended E → Ended E → Type 0)
     (reader reader_after : Ended R) (writer writer_after : Ended W) (errors errors_after : Ended E) (status : ℕ) : Type 0 where
   pub reads : Reads remaining reader reader_after status
-  pub ok : status ≡ 0 → AnswersInput IsAnswer (remaining reader.inner) (remaining reader_after.inner) (Appends (contents writer.inner) (contents writer_after.inner))
+  pub ok : status ≡ 0 → AnswersInput (λ input answer. IsAnswer input answer × Says answer errors errors_after) (remaining reader.inner) (remaining reader_after.inner) (Appends (contents writer.inner) (contents writer_after.inner))
   pub flushed : status ≡ 0 → writer_after.pending ≡ false
-  pub said : status ≡ 0 → IsInput (λ input. Says input errors errors_after) (remaining reader.inner) (remaining reader_after.inner)
   pub write : status ≡ 5 → writer_after.failed ≡ true
   pub begun : status ≡ 5 → AnswersInput IsAnswer (remaining reader.inner) (remaining reader_after.inner) (AppendsBeginning (contents writer.inner) (contents writer_after.inner))
   pub unwritten : status ≢ 0 → status ≢ 5 → writer_after ≡ writer

@@ -20,9 +20,8 @@ returns-in-Ok-answer-clause-answers g c =
         quiet = λ other. c.in-Ok.ensures.quiet;
         not_utf8 = λ three. absurd (not_written status 3 refl known three);
       };
-      ok = λ zero. (input, read, c.as_str.utf8, (answer, made, c.write_answer.ensures.text zero));
+      ok = λ zero. (input, read, c.as_str.utf8, (answer, (made, warns zero), c.write_answer.ensures.text zero));
       flushed = c.write_answer.ensures.flushed;
-      said = λ zero. (input, read, c.as_str.utf8, c.write_answer.ensures.silent zero);
       write = c.write_answer.ensures.write;
       begun = λ five. (input, read, c.as_str.utf8, (answer, made, c.write_answer.ensures.begun five));
       unwritten = λ some other. absurd (⊎_elim some other known);
@@ -43,7 +42,6 @@ returns-clause-answers g c =
       };
       ok = λ zero. absurd (not_status e 0 refl (sym number ∙ zero));
       flushed = λ zero. absurd (not_status e 0 refl (sym number ∙ zero));
-      said = λ zero. absurd (not_status e 0 refl (sym number ∙ zero));
       write = λ five. absurd (not_status e 5 refl (sym number ∙ five));
       begun = λ five. absurd (not_status e 5 refl (sym number ∙ five));
       unwritten = λ some other. refl;
