@@ -1,8 +1,9 @@
 //! All that one pass over the tokens of a query tells of it: docs/reference/programs.md, "Limits of a query" and "Targets".
 
-ghost use Rattle.std.specs.Prelude.{◌≡◌, IfErr, IfOk};
+ghost use Rattle.std.specs.Prelude.{◌≡◌, ◌≤◌, IfErr, IfOk, length};
 ghost use Rattle.promql_span.specs.Differences.{difference};
 ghost use Rattle.promql_span.specs.QueryLimits.{IsLimitFault, IsWithin};
+ghost use Rattle.promql_span.specs.declared.target.Target.TheVariants.{Rules};
 ghost use Rattle.promql_target.specs.Refusals as spec;
 
 use crate::refusal::{FoundRefusal, Refusal};
@@ -46,7 +47,49 @@ pub fn inspect(alloc: Global, limits: &Limits, query: &str) -> Result<Inspected,
     if len > most {
         return Err(LimitFault::TooLong { len, most });
     }
-    let target = checked_by(limits.printed, limits.target);
+    match checked_by(limits.printed, limits.target) {
+        Target::Rules => inspect_printed(alloc, limits, query),
+        target => inspect_checked(alloc, limits, query, target),
+    }
+}
+
+/// The same of a query that is not too long, and of which no part is rejected.
+fn inspect_printed(alloc: Global, limits: &Limits, query: &str) -> Result<Inspected, LimitFault>
+    requires short { length query.now ≤ limits.now.max_len }
+    requires printed { spec.checked_by limits.now.printed limits.now.target ≡ Rules }
+    ensures within { IfOk result (λ i. IsWithin query.now limits.now) }
+    ensures difference { IfOk result (λ i. i.difference ≡ difference limits.now query.now) }
+    ensures refusal { IfOk result (λ i. i.refusal ≡ spec.refusal limits.now query.now) }
+    ensures fault { IfErr result (IsLimitFault query.now limits.now) }
+{
+    let mut tokens = Cursor::new(query);
+    let mut inspection = Inspection::new();
+    while let Some(token) = tokens.next() {
+        inspection = inspection.with_token(alloc, limits, query, token, tokens)?;
+    }
+    match inspection.limit_fault(limits) {
+        Some(fault) => Err(fault),
+        None => Ok(Inspected {
+            difference: inspection.difference(query),
+            refusal: None,
+        }),
+    }
+}
+
+/// The same of a query that is not too long, and is checked for this target.
+fn inspect_checked(
+    alloc: Global,
+    limits: &Limits,
+    query: &str,
+    target: Target,
+) -> Result<Inspected, LimitFault>
+    requires short { length query.now ≤ limits.now.max_len }
+    requires checked { spec.checked_by limits.now.printed limits.now.target ≡ target }
+    ensures within { IfOk result (λ i. IsWithin query.now limits.now) }
+    ensures difference { IfOk result (λ i. i.difference ≡ difference limits.now query.now) }
+    ensures refusal { IfOk result (λ i. i.refusal ≡ spec.refusal limits.now query.now) }
+    ensures fault { IfErr result (IsLimitFault query.now limits.now) }
+{
     let mut tokens = Cursor::new(query);
     let mut found = FoundRefusal::new();
     let mut inspection = Inspection::new();

@@ -2,7 +2,7 @@ use Rattle.std.proofs.Common.{length}
 use Rattle.promql_token.specs.Cursor.{tokens_left}
 use Rattle.promql_span.specs.Inspections.{IsInspected}
 use Rattle.promql_target.specs.Searching.{IsSearched}
-use Rattle.promql_target.proofs.inspected.inspect.Given as goal
+use Rattle.promql_target.proofs.inspected.inspect_checked.Given as goal
 
 abbrev pub decreases-loop-token : goal.decreases-loop-token
 decreases-loop-token l = length (tokens_left l.tokens)
