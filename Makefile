@@ -10,8 +10,8 @@ made = dist/$(PROCESSOR)
 version := $(shell sed -n 's/^Version: //p' bindings/c/promql.pc)
 soname := $(shell sed -n 's/^soname=//p' bindings/c/promql.pc)
 library = libpromql.so.$(version)
-files = bin/promql include/promql.h lib/libpromql.a lib/$(library) lib/$(soname) lib/libpromql.so lib/pkgconfig/promql.pc \
-    $(addprefix lib/cmake/promql/, promql-config.cmake promql-config-version.cmake promql_targets.cmake) \
+files = bin/promql include/promql.h include/promql_form.h lib/libpromql.a lib/$(library) lib/$(soname) lib/libpromql.so \
+    lib/pkgconfig/promql.pc $(addprefix lib/cmake/promql/, promql-config.cmake promql-config-version.cmake promql_targets.cmake) \
     share/man/man1/promql.1 share/bash-completion/completions/promql \
     share/zsh/site-functions/_promql share/fish/vendor_completions.d/promql.fish \
     share/doc/promql/LICENSE share/doc/promql/LICENSE.LGPL-2.1 share/doc/promql/NOTICE
@@ -24,7 +24,7 @@ install:
 	@test -f "$(made)/promql" || { echo "make install: no release is for the processor $(PROCESSOR): dist/ has $(notdir $(patsubst %/,%,$(wildcard dist/*/)))" >&2; exit 1; }
 	install -d "$(to)/bin" "$(to)/include" "$(to)/lib/pkgconfig" "$(to)/share/doc/promql"
 	install -m 755 "$(made)/promql" "$(to)/bin"
-	install -m 644 dist/promql.h "$(to)/include"
+	install -m 644 dist/promql.h dist/promql_form.h "$(to)/include"
 	install -m 644 "$(made)/libpromql.a" "$(to)/lib"
 	install -m 644 "$(made)/libpromql.so" "$(to)/lib/$(library)"
 	ln -sf $(library) "$(to)/lib/$(soname)"

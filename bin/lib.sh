@@ -89,6 +89,7 @@ library_names() {
 # The files of dist/ that are copies of sources, which nothing is built of.
 copied_files() {
     echo bindings/schema/promql.schema.json
+    echo bindings/c/promql_form.h
 }
 
 # crate_lines CRATE..: these crates and those of the repository below them, lowest first, as 'NAME: DEP ..', where each DEP

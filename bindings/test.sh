@@ -165,7 +165,7 @@ build_c() {
         "$cc" -std=c11 "${flags[@]}" -o "$work/test_shared" "${tests[@]}" -L"$made" -lpromql -Wl,-rpath,"$made" &&
         "$cc" -std=c11 "${flags[@]}" -o "$work/test_memory" "$here/c/tests/test_memory.c" "$made/libpromql.a" \
             -Wl,--wrap=malloc,--wrap=realloc,--wrap=pthread_getattr_np &&
-        "$cc" -std=c11 "${flags[@]}" -I"$here/c" -o "$work/test_form" "$here/c/tests/test_form.c" "$made/libpromql.a" &&
+        "$cc" -std=c11 "${flags[@]}" -o "$work/test_form" "$here/c/tests/test_form.c" "$made/libpromql.a" &&
         "$cc" -std=c11 "${flags[@]}" -o "$work/test_loading" "$here/c/tests/test_loading.c" -pthread &&
         "$cc" -std=c11 "${flags[@]}" -o "$work/bench" "$here/c/bench.c" "$made/libpromql.a" &&
         "$cc" -std=c99 "${flags[@]}" -o "$work/example" "$here/c/example.c" "$made/libpromql.a"
@@ -200,7 +200,7 @@ build_sanitized() {
     "${sanitized[@]}" -o "$work/sanitized_tests" "$here/c/tests/test_promql.c" -pthread "$made/libpromql.a" &&
         "${sanitized[@]}" -o "$work/sanitized_memory" "$here/c/tests/test_memory.c" "$made/libpromql.a" \
             -Wl,--wrap=malloc,--wrap=realloc,--wrap=pthread_getattr_np &&
-        "${sanitized[@]}" -I"$here/c" -o "$work/sanitized_form" "$here/c/tests/test_form.c" "$made/libpromql.a" &&
+        "${sanitized[@]}" -o "$work/sanitized_form" "$here/c/tests/test_form.c" "$made/libpromql.a" &&
         "${sanitized[@]}" -o "$work/sanitized_overrun" "$here/c/tests/test_overrun.c" "$made/libpromql.a"
 }
 
@@ -244,7 +244,7 @@ test_c() {
     try 'the bench for C' bench_prints "$work/bench"
     if has g++ 'the header as C++'; then
         try 'the header as C++' g++ -Wall -Wextra -Wpedantic -Werror -fsyntax-only -x c++ "$dist/promql.h"
-        try 'the header of forms as C++' g++ -Wall -Wextra -Wpedantic -Werror -fsyntax-only -x c++ "$here/c/promql_form.h"
+        try 'the header of forms as C++' g++ -Wall -Wextra -Wpedantic -Werror -fsyntax-only -x c++ "$dist/promql_form.h"
     fi
     if has python3 'rows and broken texts for C'; then test_rows_in_c; fi
     if has_sanitizers 'the tests for C with sanitizers'; then test_sanitized; fi

@@ -70,6 +70,14 @@ linked_to_static() {
         ! ldd "$work/by_archive" | grep promql
 }
 
+# The header of forms lies beside the other one, and needs nothing but the flags of pkg-config.
+walked_by_installed() {
+    local -a flags
+    cmp "$here/c/promql_form.h" "$prefix/include/promql_form.h" && read -r -a flags <<<"$(pkg_config --cflags)" || return
+    "${CC:-cc}" -o "$work/walked" "$here/c/tests/test_form.c" "${flags[@]}" "$(pkg_config --variable=libdir)/libpromql.a" &&
+        "$work/walked" "$queries"
+}
+
 # The names of the shared library, and programs that are linked as docs/guide/bindings.md says.
 test_linking() {
     has pkg-config 'the library that was installed' || return
@@ -82,6 +90,7 @@ test_linking() {
     has "${CC:-cc}" 'programs linked to the library that was installed' || return
     try 'a program linked to the shared library of a prefix' linked_to_shared
     try 'a program linked to the static library of a prefix' linked_to_static
+    add 'forms that are walked by the header of a prefix' walked_by_installed
 }
 
 # The page is without a warning of groff, and has what the help of each subcommand says of its options and statuses.
@@ -208,6 +217,6 @@ test_install() {
 }
 
 export prefix share both
-export -f make_for files_in install_all pkg_config names_of_library has_soname build_linked prints_line linked_to_shared linked_to_static
+export -f make_for files_in install_all pkg_config names_of_library has_soname build_linked prints_line linked_to_shared linked_to_static walked_by_installed
 export -f manual_is_read completed bash_completes fish_completes zsh_completes
 export -f cmake_user found_by_cmake part_of_another put_in take_out runs_in make_and_pip
