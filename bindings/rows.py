@@ -41,9 +41,20 @@ PRINT, CANONICAL, CHECK, _, ENFORCE, _, _, EXPLAIN = range(8)
 MODES = {"line": 0, "pretty": 1, "json": 2, "places": 3}
 ACCEPTED = b'{"ok":""}'
 SYNTAX = "invalid promql query"
-# The message of a query with more than 512 levels, and what an explanation says in its place.
-TOO_DEEP = "expression nested too deeply"
-TOO_MANY_LEVELS = "more than 512 levels: put parts of a long chain in parentheses, or split the query"
+# What promql batch says of a query with more than 512 levels, and of some that Prometheus takes, and what an explanation says in its place
+# (docs/guide/errors.md; docs/reference/targets.md, "What the server accepts").
+EXPLAINED = {
+    "expression nested too deeply": "more than 512 levels: put parts of a long chain in parentheses, or split the query",
+    "more than 38 significant digits": "more than 38 significant digits; Prometheus rounds it to a floating-point number",
+    "unexpected character inside brackets: '#'": (
+        "unexpected character inside brackets: '#'; Prometheus takes a comment there: write it after the bracket"
+    ),
+    "unknown function with name 'holt_winters'": (
+        "unknown function with name 'holt_winters'; Prometheus 2 has it: write double_exponential_smoothing, its name in Prometheus 3"
+    ),
+    "no @ modifiers allowed before range": "no @ modifiers allowed before range; Prometheus takes it: write the range first",
+}
+IN_SHORT = {explained: short for short, explained in EXPLAINED.items()}
 
 sys.setrecursionlimit(100_000)  # JSON of high trees
 
@@ -110,9 +121,11 @@ def without_id(reply):
 
 
 def in_short(told):
-    """An explanation as promql batch answers its query: without what the message says beside `expected` and `found`, or of many levels."""
-    if told["error"] == TOO_MANY_LEVELS:
-        told = {**told, "error": TOO_DEEP}
+    """An explanation as promql batch answers its query: without what the message says beside `expected` and `found`, or what to write."""
+    if told["error"] in EXPLAINED:
+        return b"an explanation does not say what to write"
+    if told["error"] in IN_SHORT:
+        told = {**told, "error": IN_SHORT[told["error"]]}
     if "expected" in told:
         *firsts, last = told["expected"]
         names = f"{', '.join(firsts)} or {last}" if firsts else last
