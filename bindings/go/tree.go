@@ -209,51 +209,38 @@ const (
 // Name is the name before the braces of a selector, or empty where there is none.
 type Name string
 
-// Milliseconds is a length of time. MillisecondsOf makes one.
+// Milliseconds is a length of time. MillisecondsOf makes one of a duration.
 type Milliseconds uint64
 
 // ErrDuration says that a duration is no length of time of a tree: it has a part of a millisecond, or is below 0 where that may not be.
 var ErrDuration = errors.New("no length of time of a tree")
 
-// ExactMilliseconds returns a duration in milliseconds. The error is ErrDuration where it is no whole number of them, or below 0.
-func ExactMilliseconds(duration time.Duration) (Milliseconds, error) {
+// MillisecondsOf returns a duration in milliseconds. The error is ErrDuration where it is no whole number of them, or below 0.
+func MillisecondsOf(duration time.Duration) (Milliseconds, error) {
 	if duration < 0 {
 		return 0, explained{"a duration below 0: " + duration.String(), ErrDuration}
 	}
-	offset, err := ExactOffset(duration)
+	offset, err := OffsetOf(duration)
 	return offset.Milliseconds, err
 }
 
-// ExactOffset returns a duration as an offset. The error is ErrDuration where it is no whole number of milliseconds.
-func ExactOffset(duration time.Duration) (Offset, error) {
-	if duration%time.Millisecond != 0 {
-		return Offset{}, explained{"a duration with a part of a millisecond: " + duration.String(), ErrDuration}
-	}
-	return OffsetOf(duration), nil
-}
-
-// MillisecondsOf returns a duration in whole milliseconds, of which a part is cut off; one below 0 is 0. ExactMilliseconds returns an error
-// for these.
-func MillisecondsOf(duration time.Duration) Milliseconds {
-	if duration < 0 {
-		return 0
-	}
-	return Milliseconds(duration / time.Millisecond)
-}
-
-// Offset is a length of time that is negative for an offset into the future. OffsetOf makes one.
+// Offset is a length of time that is negative for an offset into the future. OffsetOf makes one of a duration.
 type Offset struct {
 	Milliseconds Milliseconds
 	Negative     bool
 }
 
-// OffsetOf returns a duration as an offset in whole milliseconds, of which a part is cut off. ExactOffset returns an error for that.
-func OffsetOf(duration time.Duration) Offset {
+// OffsetOf returns a duration as an offset. The error is ErrDuration where it is no whole number of milliseconds.
+func OffsetOf(duration time.Duration) (Offset, error) {
 	milliseconds := duration / time.Millisecond
-	if milliseconds < 0 {
-		return Offset{Milliseconds(-milliseconds), true}
+	switch {
+	case duration%time.Millisecond != 0:
+		return Offset{}, explained{"a duration with a part of a millisecond: " + duration.String(), ErrDuration}
+	case milliseconds < 0:
+		return Offset{Milliseconds(-milliseconds), true}, nil
+	default:
+		return Offset{Milliseconds(milliseconds), false}, nil
 	}
-	return Offset{Milliseconds(milliseconds), false}
 }
 
 // ValueType is the type of an expression's value.

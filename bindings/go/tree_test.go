@@ -64,9 +64,18 @@ func selector(name promql.Name, matchers ...promql.Matcher) *promql.VectorSelect
 	return &promql.VectorSelector{Selection: promql.Selection{Name: name, Matchers: matchers}}
 }
 
+// milliseconds returns a duration that is a whole number of them.
+func milliseconds(duration time.Duration) promql.Milliseconds {
+	length, err := promql.MillisecondsOf(duration)
+	if err != nil {
+		panic(err)
+	}
+	return length
+}
+
 // trees has queries with their trees.
 func trees() map[string]promql.Expr {
-	step, timestamp := promql.MillisecondsOf(5*time.Minute), int64(-1500)
+	step, timestamp := milliseconds(5*time.Minute), int64(-1500)
 	rate := promql.NewCall("rate", &promql.MatrixSelector{
 		Selection: promql.Selection{
 			Name: "foo",
@@ -74,9 +83,9 @@ func trees() map[string]promql.Expr {
 				{{Name: "a", Type: promql.MatchEqual, Value: "1"}},
 				{{Name: "b", Type: promql.MatchNotRegexp, Value: "2"}},
 			},
-			Times: promql.Times{Offset: promql.OffsetOf(-5 * time.Minute), StartOrEnd: promql.End},
+			Times: promql.Times{Offset: promql.Offset{Milliseconds: milliseconds(5 * time.Minute), Negative: true}, StartOrEnd: promql.End},
 		},
-		Range:     promql.MillisecondsOf(time.Minute),
+		Range:     milliseconds(time.Minute),
 		RangeMode: promql.RangeAnchored,
 	})
 	return map[string]promql.Expr{
@@ -86,7 +95,7 @@ func trees() map[string]promql.Expr {
 		"time()": promql.NewCall("time"),
 		"rate(foo{a='1' or b!~'2'}[1m] anchored offset -5m @ end())": rate,
 		"up[1h:5m] @ -1.5": &promql.SubqueryExpr{
-			Expr: selector("up"), Range: promql.MillisecondsOf(time.Hour), Step: &step, Times: promql.Times{Timestamp: &timestamp},
+			Expr: selector("up"), Range: milliseconds(time.Hour), Step: &step, Times: promql.Times{Timestamp: &timestamp},
 		},
 		"topk without (a, b) (0.5, {a='1'})": &promql.AggregateExpr{
 			Op: "topk", Expr: selector("", promql.Matcher{Name: "a", Type: promql.MatchEqual, Value: "1"}), Param: promql.NewNumber(0.5),
@@ -292,21 +301,25 @@ func TestPrintErrors(t *testing.T) {
 	}
 }
 
-func TestExactDurations(t *testing.T) {
+func TestDurations(t *testing.T) {
 	for _, it := range []struct {
 		duration    time.Duration
 		milli, back bool
+		count       promql.Milliseconds
 	}{
-		{0, true, true}, {time.Millisecond, true, true}, {5 * time.Minute, true, true}, {-time.Second, false, true},
-		{time.Millisecond + 1, false, false}, {1, false, false}, {-1, false, false}, {math.MaxInt64, false, false}, {math.MinInt64, false, false},
-		{math.MaxInt64 / time.Millisecond * time.Millisecond, true, true}, {math.MinInt64 / time.Millisecond * time.Millisecond, false, true},
+		{0, true, true, 0}, {time.Millisecond, true, true, 1}, {5 * time.Minute, true, true, 300_000}, {-time.Second, false, true, 1000},
+		{time.Millisecond + 1, false, false, 0}, {1, false, false, 0}, {-1, false, false, 0}, {-time.Millisecond - 1, false, false, 0},
+		{math.MaxInt64, false, false, 0}, {math.MinInt64, false, false, 0},
+		{math.MaxInt64 / time.Millisecond * time.Millisecond, true, true, 9_223_372_036_854},
+		{math.MinInt64 / time.Millisecond * time.Millisecond, false, true, 9_223_372_036_854},
 	} {
-		length, err := promql.ExactMilliseconds(it.duration)
-		if (err == nil) != it.milli || err != nil && !errors.Is(err, promql.ErrDuration) || err == nil && length != promql.MillisecondsOf(it.duration) {
+		length, err := promql.MillisecondsOf(it.duration)
+		if (err == nil) != it.milli || err != nil && !errors.Is(err, promql.ErrDuration) || err == nil && length != it.count {
 			t.Errorf("%s: %d, %v", it.duration, length, err)
 		}
-		offset, err := promql.ExactOffset(it.duration)
-		if (err == nil) != it.back || err != nil && !errors.Is(err, promql.ErrDuration) || err == nil && offset != promql.OffsetOf(it.duration) {
+		offset, err := promql.OffsetOf(it.duration)
+		wanted := promql.Offset{Milliseconds: it.count, Negative: it.duration < 0}
+		if (err == nil) != it.back || err != nil && !errors.Is(err, promql.ErrDuration) || err == nil && offset != wanted {
 			t.Errorf("%s: %v, %v", it.duration, offset, err)
 		}
 	}
