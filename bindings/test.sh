@@ -511,11 +511,11 @@ test_habits_of_rust() {
 
 # ---- Go
 
-# in_go FOLDER ARGUMENT..: go in this folder of the module, which fetches nothing.
+# in_go FOLDER ARGUMENT..: go, or the one that the variable go names, in this folder of the module, which fetches nothing.
 in_go() {
     local folder=$1
     shift
-    (cd "$here/go/$folder" && GOCACHE=$work/go GOFLAGS=-mod=readonly GOPROXY=off CGO_ENABLED=1 exec go "$@")
+    (cd "$here/go/$folder" && GOCACHE=$work/go GOFLAGS=-mod=readonly GOPROXY=off GOTOOLCHAIN=local CGO_ENABLED=1 exec "${go:-go}" "$@")
 }
 
 # go_tests [PACKAGE [-run NAMES]]: the tests of the module, its examples among them, or those of a package, with 'N passed, M failed' as the
@@ -537,11 +537,35 @@ formatted_go() {
     [ -z "$left" ]
 }
 
+# go_with_iterators: prints a go from 1.23 on, the first one here or one of Debian's others.
+go_with_iterators() {
+    local go
+    for go in go /usr/lib/go-1.*/bin/go; do
+        if GOTOOLCHAIN=local "$go" version 2>/dev/null | grep -qE ' go1\.(2[3-9]|[3-9][0-9])'; then
+            echo "$go"
+            return
+        fi
+    done
+    return 1
+}
+
+# A test asks for iterators of the language, and is not built by an older Go.
+test_iterators() {
+    local go
+    if ! go=$(go_with_iterators); then
+        echo 'not tried: iterators of Go: there is no Go from 1.23 on, as bookworm-backports has in golang-1.23-go'
+    elif [ "$go" != go ]; then
+        export go
+        add "Go, by $go" go_tests .
+    fi
+}
+
 test_go() {
     has go 'the binding for Go' || return
     try 'the layout of Go' formatted_go
     try 'go vet' in_go . vet ./...
     add 'Go' go_tests
+    test_iterators
     try 'the proxy in Go by the race detector' in_go . test -race ./cmd/promql-proxy/...
     try 'broken texts for Go by its fuzzer' in_go . test -run '^$' -fuzz FuzzQueries -fuzztime 10000x .
     test_go_modules
