@@ -123,7 +123,7 @@ class Wheels(unittest.TestCase):
     def check_files(self, wheel, processor):
         self.assertEqual(wheel.name, self.name(processor))
         self.assertEqual(wheel.read_bytes(), self.build(f"{processor} again", processor=processor).read_bytes())
-        sources = [path for path in (self.package / "promql").rglob("*") if path.suffix not in (".c", "") or path.name == "py.typed"]
+        sources = [path for path in (self.package / "promql").rglob("*") if path.suffix not in (".c", ".h", "") or path.name == "py.typed"]
         wanted = {str(path.relative_to(self.package)): path for path in sources}
         wanted.update({f"promql/{name}": self.checkout / "dist" / processor / name for name in BUILT})
         info = f"promql-{self.version()}.dist-info"
