@@ -96,7 +96,8 @@ test_extension() {
 test_schema() {
     local python
     if python=$(python_with_schemas); then
-        add 'the schema of the JSON form' "$python" "$here/schema/test_schema.py"
+        # (it takes three minutes of one processor)
+        most=900 add 'the schema of the JSON form' "$python" "$here/schema/test_schema.py"
     else
         echo 'not tried: the schema of the JSON form: no Python here has jsonschema 4'
     fi
