@@ -161,10 +161,9 @@ impl fmt::Display for Error {
     fn fmt(&self, f: &mut fmt::Formatter<'_>) -> fmt::Result {
         match self {
             Error::OutOfMemory => f.write_str("out of memory"),
-            Error::Rejected(rejection)
-            | Error::TooLarge(rejection)
-            | Error::ReadOtherwise(rejection)
-            | Error::Refused(rejection) => rejection.fmt(f),
+            Error::Rejected(rejection) | Error::TooLarge(rejection) | Error::ReadOtherwise(rejection) | Error::Refused(rejection) => {
+                rejection.fmt(f)
+            }
             Error::LevelTooHigh => f.write_str("level is above 512"),
             Error::NumberTooWide => f.write_str("number too wide for JSON"),
             Error::NotAMatcher => f.write_str(NOT_A_MATCHER),
