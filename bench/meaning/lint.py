@@ -53,7 +53,6 @@ class Maker(compare.Maker):
             return self.compared(super().instant(depth - 1))
         return str(super().instant(depth))
 
-
     def compared(self, vector: str) -> str:
         """Two comparisons of a vector with numbers that are near each other."""
         function = self.rng.choice(("", "hour", "day_of_week", "sgn", "abs", "max", "count"))

@@ -10,7 +10,6 @@ from pathlib import Path
 import promql
 from command_line import run
 from grafana_queries import LAID_OUT, LEFT, QUERIES, VALUES, WRONG
-from promql.files import BLANKS
 from promql.checked_queries import QueryChecker
 from promql.grafana_variables import VARIABLE, places_of, read_variables
 from promql.queries import PlacedText

@@ -1,6 +1,5 @@
 """Tests of the linter's rules: those of docs/guide/lint.md by its examples, and more texts for each."""
 
-import json
 import re
 import unittest
 from pathlib import Path

@@ -57,6 +57,8 @@ class Texts(unittest.TestCase):
     def test_format(self):
         self.assertEqual(promql.pretty("sum(a)/sum(b)", width=8), "  sum(a)\n/\n  sum(b)")
         self.assertEqual(promql.pretty("1+2", level=1), "  1 + 2")
+        self.assertEqual(promql.format("up # c"), "up # c")
+        self.assertEqual(promql.format("# a\nsum(up)by(job)#b"), "# a\nsum by (job) (up) #b")
         self.assertEqual(promql.pretty("1+2", width=2**64 - 1, level=512), "  " * 512 + "1 + 2")
         for wrong in ({"level": -1}, {"level": 513}, {"width": -1}, {"width": 2**64}):
             with self.assertRaises(ValueError):

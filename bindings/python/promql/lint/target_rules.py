@@ -4,8 +4,6 @@ from __future__ import annotations
 
 from typing import Iterator
 
-import promql
-
 from .findings import Remark, Severity, Span
 from .subject import Subject
 from .table import rule
