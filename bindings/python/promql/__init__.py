@@ -409,7 +409,7 @@ def differences(query: str) -> List[Difference]:
 write vector(..) around the number')]
     """
     found = json.loads(_text(query, _caller.differences(query)))
-    before = range(len(query) + 1) if query.isascii() else _characters(query)
+    before: Union[range, Dict[int, int]] = range(len(query) + 1) if query.isascii() else _characters(query)
     return [Difference(code == Status.REFUSED, before[start], before[end], message) for code, start, end, message in found]
 
 
