@@ -16,6 +16,7 @@
 # bindings/test.sh --arm         runs what dist/ has for ARM under qemu, in ten minutes: the program as bin/test does, and the library from C,
 #                                Go and Rust, where qemu-aarch64-static and aarch64-linux-gnu-gcc are installed; and the programs of
 #                                both processors in a root that has nothing else (docs/RELEASE.md, "Processors")
+# The variable `most` says in how many seconds each command has to end, which is 240 for most of them: a busy machine needs more.
 set -u
 here=$(cd "$(dirname "$0")" && pwd)
 root=${here%/*}
