@@ -1,5 +1,5 @@
 -- What is said of an answer is what its target rejects of it.
-use Rattle.std.proofs.Common.{◌≡◌, ℕ, Bool, false, List, subst, ◌∙◌}
+use Rattle.std.proofs.Common.{◌≡◌, ℕ, Bool, false, List, refl, ap, subst, sym, ◌∙◌}
 use Rattle.std.specs.Prelude.{MatchOption, Option, Some, None}
 use Rattle.std.specs.Io.KnownBytes.{Appends}
 use Rattle.promql_text.specs.Texts.{Text}
@@ -13,6 +13,13 @@ use Rattle.promql_target.specs.declared.refusal.Refusal.{Refusal}
 use Rattle.promql_programs.specs.Tasks.{IsSilent, Warns, warning_text}
 use Rattle.promql_programs.specs.Warnings.{IsSaid, IsWarning}
 
+-- for these rules there is none
+pub no_warning : (is_file : Bool) (prefix : Text) (target : Target) (answer : Text) → target ≡ Rules → IsWarning is_file prefix target answer None
+no_warning is_file prefix target answer is =
+    subst
+    (λ o. MatchOption o (◌≡◌ {A = Option Text} None None) (λ r. (message : Text) × (◌≡◌ {A = Option Text} None (Some (warning_text is_file prefix answer r.span message)))))
+    (sym (ap (λ t. first_refusal t answer) is ∙ no_refusal answer)) refl
+
 module _ {E : Type 0} (said : E → Option (List ℕ)) (is_file : Bool) (prefix : Text) where
   -- the warning that is said is that of the answer
   pub warned : (target : Target) (answer : Text) (warning : Option Text) (errors errors_after : Ended E)
@@ -25,7 +32,7 @@ module _ {E : Type 0} (said : E → Option (List ℕ)) (is_file : Bool) (prefix 
       cases None none = subst (λ w. IsSaid said w errors errors_after) none told
       cases (Some r) (message, some) = (message, subst (λ w. IsSaid said w errors errors_after) some told)
 
-  -- for these rules there is none
+  -- for these rules nothing is said
   pub nothing_said : (answer : Text) (errors errors_after : Ended E) → Warns said is_file prefix Rules answer errors errors_after → errors_after ≡ errors
   nothing_said answer errors errors_after warns =
       subst

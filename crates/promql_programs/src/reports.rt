@@ -225,14 +225,14 @@ pub(crate) fn warning_of(
 ) -> Result<Option<String>, AllocError>
     ensures { IfOk result (λ warning. IsWarning source.now.is_file (string_bytes source.now.prefix) target answer.now (option_map string_bytes warning)) }
 {
-    if target == Target::Rules {
-        return Ok(None);
-    }
-    match first_refusal(target, answer) {
-        Some(refusal) => {
-            let warning = refusal_warning(alloc, source, target, answer, refusal)?;
-            Ok(Some(warning))
-        }
-        None => Ok(None),
+    match target {
+        Target::Rules => Ok(None),
+        Target::Prometheus2 | Target::Prometheus3 => match first_refusal(target, answer) {
+            Some(refusal) => {
+                let warning = refusal_warning(alloc, source, target, answer, refusal)?;
+                Ok(Some(warning))
+            }
+            None => Ok(None),
+        },
     }
 }

@@ -53,12 +53,12 @@ fn write_warned<W: Write, E: Write>(
     writer: &mut Ended<W>,
     errors: &mut Ended<E>,
     answer: &str,
-    warning: Option<&str>,
+    warning: Option<String>,
 ) -> u8
     ensures text { result ≡ 0
         → Appends (W.contents writer.old.inner) (W.contents writer.new.inner) answer.now }
     ensures flushed { result ≡ 0 → writer.new.pending ≡ false }
-    ensures said { result ≡ 0 → IsSaid E.contents (option_map (λ s. s.now) warning.entry) errors.old errors.new }
+    ensures said { result ≡ 0 → IsSaid E.contents (option_map string_bytes warning) errors.old errors.new }
     ensures known { (result ≡ 0) ⊎ (result ≡ 5) }
     ensures write { result ≡ 5 → writer.new.failed ≡ true }
     ensures begun { result ≡ 5
@@ -67,7 +67,7 @@ fn write_warned<W: Write, E: Write>(
 {
     let status = write_answer(writer, errors, answer);
     if let (0, Some(warning)) = (status, warning) {
-        let _ = write_text(errors, warning);
+        let _ = write_text(errors, warning.as_str());
     }
     status
 }
@@ -100,13 +100,16 @@ pub fn answer_query<T: Task, R: Read, W: Write, E: Write>(
     };
     let query = source.text_in(input.as_str());
     match task.answer(alloc, query) {
-        Ok(answer) => match warning_of(alloc, source, task.target(), answer.as_str()) {
-            Ok(warning) => write_warned(writer, errors, answer.as_str(), warning.as_deref()),
-            Err(_) => {
-                say(errors, source, &QueryError::Memory);
-                1
+        Ok(answer) => {
+            let text = answer.as_str();
+            match warning_of(alloc, source, task.target(), text) {
+                Ok(warning) => write_warned(writer, errors, text, warning),
+                Err(_) => {
+                    say(errors, source, &QueryError::Memory);
+                    1
+                }
             }
-        },
+        }
         Err(error) => {
             match task.reason(alloc, &error) {
                 Ok(Some(reason)) => {

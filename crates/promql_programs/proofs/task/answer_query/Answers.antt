@@ -1,29 +1,42 @@
-use Rattle.std.proofs.Common.{◌∙◌, ⊎_elim, inl, inr, refl, subst, sym}
+use Rattle.std.proofs.Common.{◌∙◌, ⊎_elim, inl, inr, option_map, refl, string_bytes, subst, sym}
 use Rattle.promql_run.specs.Inputs.{HasRead}
 use Rattle.promql_lines.proofs.QueryStatuses.{not_status, not_written, three_is_not_utf8}
 use Rattle.promql_programs.specs.Tasks.{IsInputAnswer}
+use Rattle.promql_programs.specs.Warnings.{IsWarning}
+use Rattle.promql_programs.proofs.WarnedAnswers.{warned}
 use Rattle.promql_programs.proofs.task.answer_query.Goals as goal
 
 -- what was made is written, or a beginning of it
-pub returns-in-Ok-answer-clause-answers : goal.returns-in-Ok-answer-clause-answers
-returns-in-Ok-answer-clause-answers g c =
-    let status = c.write_answer.result in
-    let known = c.write_answer.ensures.known in
+pub returns-in-Ok-warning_of-clause-answers : goal.returns-in-Ok-warning_of-clause-answers
+returns-in-Ok-warning_of-clause-answers g c =
+    let status = c.write_warned.result in
+    let known = c.write_warned.ensures.known in
     let input = c.as_str.result.now in
     let read = subst (HasRead (g.R.Read.remaining c.args.reader.now.inner) (g.R.Read.remaining c.read_text.new.reader.inner)) (sym c.as_str.ensures.value) c.in-Ok.ensures.read in
-    let answer = c.as_str-in-Ok-answer.result.now in
-    let is = subst (g.T.Task.makes c.args.task.now c.text_in-query.result.now) (sym c.as_str-in-Ok-answer.ensures.value) c.in-Ok-answer.ensures.made in
+    let answer = c.as_str-text.result.now in
+    let is = subst (g.T.Task.makes c.args.task.now c.text_in-query.result.now) (sym c.as_str-text.ensures.value) c.in-Ok-answer.ensures.made in
     let made : IsInputAnswer c.args.source.now.is_file (g.T.Task.makes c.args.task.now) input answer = (c.text_in-query.result.now, c.text_in-query.ensures, is) in
+    let prefix = string_bytes c.args.source.now.prefix in
+    let warning = subst (λ target. IsWarning c.args.source.now.is_file prefix target answer (option_map string_bytes c.in-Ok-warning_of.warning)) c.target.ensures c.in-Ok-warning_of.ensures in
     record {
       reads = record {
         failed = λ two. absurd (not_written status 2 refl known two);
         quiet = λ other. c.in-Ok.ensures.quiet;
         not_utf8 = λ three. absurd (not_written status 3 refl known three);
       };
-      ok = λ zero. (input, read, c.as_str.utf8, (answer, (made, warns zero), c.write_answer.ensures.text zero));
-      flushed = c.write_answer.ensures.flushed;
-      write = c.write_answer.ensures.write;
-      begun = λ five. (input, read, c.as_str.utf8, (answer, made, c.write_answer.ensures.begun five));
+      ok = λ zero. (
+        input,
+        read,
+        c.as_str.utf8,
+        (
+          answer,
+          (made, warned g.E.Write.contents c.args.source.now.is_file prefix (g.T.Task.served c.args.task.now) answer _ _ _ warning (c.write_warned.ensures.said zero)),
+          c.write_warned.ensures.text zero,
+        ),
+      );
+      flushed = c.write_warned.ensures.flushed;
+      write = c.write_warned.ensures.write;
+      begun = λ five. (input, read, c.as_str.utf8, (answer, made, c.write_warned.ensures.begun five));
       unwritten = λ some other. absurd (⊎_elim some other known);
       none = ⊎_elim inl (λ five. inr (inr (inr (inr (inl five))))) known;
     }
