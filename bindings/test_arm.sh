@@ -1,7 +1,7 @@
 # shellcheck shell=bash
 # Functions of bindings/test.sh, which sources this file: the tests of what dist/ has for ARM, under qemu, and of programs in a root that has
 # nothing else.
-: "${here:?}" "${root:?}" "${dist:?}" "${work:?}"
+: "${here:?}" "${root:?}" "${dist:?}" "${work:?}" "${queries:?}"
 arm=$dist/aarch64
 arm_cc=aarch64-linux-gnu-gcc
 # Where qemu finds the glibc for what is linked to a shared library: that of this machine, where Debian has it for ARM beside its own, or that
@@ -69,6 +69,7 @@ build_c_for_arm() {
         "$arm_cc" -std=c11 "${flags[@]}" -o "$work/arm_shared" "${tests[@]}" -L"$arm" -lpromql -Wl,-rpath,"$arm" &&
         "$arm_cc" -std=c11 "${flags[@]}" -static -o "$work/arm_memory" "$here/c/tests/test_memory.c" "$arm/libpromql.a" \
             -Wl,--wrap=malloc,--wrap=realloc,--wrap=pthread_getattr_np &&
+        "$arm_cc" -std=c11 "${flags[@]}" -static -o "$work/arm_form" "$here/c/tests/test_form.c" "$arm/libpromql.a" &&
         "$arm_cc" -std=c11 "${flags[@]}" -o "$work/arm_loading" "$here/c/tests/test_loading.c" -pthread &&
         "$arm_cc" -std=c99 "${flags[@]}" -static -o "$work/arm_example" "$here/c/example.c" "$arm/libpromql.a" &&
         "$arm_cc" -std=c11 "${flags[@]}" -static -o "$work/arm_kit" "$here/c/tests/test_kit.c" "$root/bin/kit_heap.c" "$root/bin/kit_process.c" \
@@ -79,11 +80,12 @@ test_c_for_arm() {
     local name
     try 'building the tests for C for ARM' build_c_for_arm
     [ -x "$work/arm_kit" ] || return
-    for name in static shared memory loading example kit; do write_for_arm "$work/run_$name" "$work/arm_$name"; done
+    for name in static shared memory form loading example kit; do write_for_arm "$work/run_$name" "$work/arm_$name"; done
     add 'the heap and the process for ARM' "$work/run_kit" "${kit_arguments[@]}"
     add 'C for ARM, linked to libpromql.a' "$work/run_static"
     add 'C for ARM, linked to libpromql.so' "$work/run_shared"
     add 'failing allocations in C for ARM' "$work/run_memory"
+    add 'forms that are walked in C for ARM' "$work/run_form" "$queries"
     add 'C for ARM, by dlopen' "$work/run_loading" "$arm/libpromql.so"
     try 'the example for C for ARM' prints_for_arm "$work/run_example" '1 + 2' '1+2'
     has python3 'rows and broken texts for C for ARM' || return

@@ -1,7 +1,7 @@
 # shellcheck shell=bash
 # Functions of bindings/test.sh, which sources this file: the tests of `make install`, and of what pkg-config, CMake, man and the shells
 # find then.
-: "${here:?}" "${root:?}" "${dist:?}" "${made:?}" "${work:?}"
+: "${here:?}" "${root:?}" "${dist:?}" "${made:?}" "${work:?}" "${queries:?}"
 prefix=$work/prefix
 share=$prefix/share
 both=$work/both
