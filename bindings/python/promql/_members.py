@@ -2,12 +2,12 @@
 
 from __future__ import annotations
 
-from typing import Any, Dict, List, Optional, Sequence, Tuple, Type, TypeVar
+from typing import Any, Dict, List, Optional, Sequence, Tuple
 
 from . import Error
-from ._fields import HIGHEST, LOWEST
 
-Value = TypeVar("Value")
+LOWEST, HIGHEST = -(2**63), 2**64 - 1
+NoneType: type = type(None)
 
 
 class FormError(Error):
@@ -54,9 +54,9 @@ class Members:
 
     def value(self, name: str) -> Any:
         """The value of a member, which has to be there."""
-        if name not in self._form:
-            raise self.error(name, "expected such a member")
         if name not in self._read:
+            if name not in self._form:
+                raise self.error(name, "expected such a member")
             self._read.append(name)
         return self._form[name]
 
@@ -73,25 +73,20 @@ class Members:
             if name not in self._read:
                 raise self.error(name, "unknown member")
 
-    def text(self, name: str) -> str:
-        return self._of_type(name, str, "a string")
+    def text(self, name: str) -> Any:
+        return self._of_type(name, (str,), "a string")
 
-    def flag(self, name: str) -> bool:
-        return self._of_type(name, bool, "true or false")
+    def flag(self, name: str) -> Any:
+        return self._of_type(name, (bool,), "true or false")
 
-    def whole(self, name: str) -> int:
-        return self._in_range(name, self._of_type(name, int, "a whole number"))
+    def whole(self, name: str) -> Any:
+        return self._of_type(name, (int,), "a whole number")
 
-    def text_or_none(self, name: str) -> Optional[str]:
-        return None if self.value(name) is None else self._of_type(name, str, "a string or null")
+    def text_or_none(self, name: str) -> Any:
+        return self._of_type(name, (str, NoneType), "a string or null")
 
-    def whole_or_none(self, name: str) -> Optional[int]:
-        return None if self.value(name) is None else self._in_range(name, self._of_type(name, int, "a whole number or null"))
-
-    def _in_range(self, name: str, number: int) -> int:
-        if not LOWEST <= number <= HIGHEST:
-            raise self.error(name, "expected a whole number from -2^63 to 2^64 - 1")
-        return number
+    def whole_or_none(self, name: str) -> Any:
+        return self._of_type(name, (int, NoneType), "a whole number or null")
 
     def word(self, name: str, words: Sequence[str]) -> str:
         found = self.value(name)
@@ -106,8 +101,8 @@ class Members:
                 raise self.error(f"{name}[{number}]", "expected a string")
         return tuple(items)
 
-    def items(self, name: str) -> List[Any]:
-        return self._of_type(name, list, "a list")
+    def items(self, name: str) -> Any:
+        return self._of_type(name, (list,), "a list")
 
     def below(self, name: str) -> Members:
         return Members(self.value(name), self, name)
@@ -115,9 +110,12 @@ class Members:
     def objects(self, name: str) -> List[Members]:
         return [Members(item, self, f"{name}[{number}]") for number, item in enumerate(self.items(name))]
 
-    def _of_type(self, name: str, kind: Type[Value], words: str) -> Value:
+    def _of_type(self, name: str, kinds: Tuple[type, ...], words: str) -> Any:
+        """The value of a member, which is of one of these types, and in range where it is a number."""
         found = self.value(name)
         # (a bool is an int of Python)
-        if type(found) is not kind:
+        if type(found) not in kinds:
             raise self.error(name, f"expected {words}")
+        if type(found) is int and not LOWEST <= found <= HIGHEST:
+            raise self.error(name, "expected a whole number from -2^63 to 2^64 - 1")
         return found

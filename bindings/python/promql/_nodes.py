@@ -6,10 +6,10 @@ from dataclasses import dataclass
 from decimal import Decimal
 from typing import Any, ClassVar, Dict, Iterator, List, Optional, Sequence, Tuple, Type, TypeVar, Union, cast
 
-from ._fields import Check, flag, one, text, text_or_none, texts, time_after_at, tuple_of, whole, whole_or_none
-from ._members import FormError, Members
-from ._parts import GROUPS, MATCHERS, Matcher, Matching, Node
-from ._slots import with_slots
+from ._fields import KINDS as FIELD_KINDS
+from ._fields import Kind, with_slots
+from ._members import FormError, Members, NoneType
+from ._parts import Matcher, Matching, Node
 from .forms import Form, RangeMode, StartOrEnd
 from .functions import FUNCTIONS, Function
 
@@ -18,6 +18,8 @@ _TOO_MANY_DIGITS = f"the number has more than {_MOST_DIGITS} digits before or af
 
 # The time after `@`: milliseconds since the epoch, `start` or `end`.
 At = Union[int, StartOrEnd]
+# That of a call, whose form has all of the function.
+FunctionName = str
 AnyExpr = TypeVar("AnyExpr", bound="Expr")
 
 
@@ -102,6 +104,16 @@ class Expr(Node):
             yield expr
             left.extend(reversed(expr.children()))
 
+    def members(self) -> Dict[str, Any]:
+        """The members of its JSON form that are no expressions."""
+        form: Dict[str, Any] = {"type": self.TYPE, **self.FIXED}
+        for name, member, _, write in self.FORM:
+            if write:
+                write(form, member, getattr(self, name))
+            else:
+                form[member] = getattr(self, name)
+        return form
+
     def to_json(self) -> Form:
         """The JSON form, as dictionaries and lists. Raises NodeError where a call is of no function."""
         from ._printing import form_of
@@ -119,18 +131,72 @@ class Expr(Node):
 
         return line_of(self)
 
-    def members(self) -> Dict[str, Any]:
-        """The members of its JSON form that are neither its `type` nor expressions."""
-        return {}
 
-    @classmethod
-    def read(cls: Type[AnyExpr], members: Members, children: Dict[str, Any]) -> AnyExpr:
-        """Makes it of its JSON form, and of what its fields of expressions have."""
-        return cls(**children)
+def _count(value: object) -> int:
+    """How many expressions a field has."""
+    return len(value) if isinstance(value, tuple) else int(value is not None)
 
 
-_EXPR = one(Expr, "an expression")
-_EXPR_OR_NONE = one(Expr, "an expression", or_none=True)
+# ---- the fields that expressions alone have
+
+
+def _read_matching(members: Members, name: str) -> Optional[Matching]:
+    return None if members.value(name) is None else Matching.read(members.below(name))
+
+
+def _write_matching(form: Dict[str, Any], member: str, matching: Optional[Matching]) -> None:
+    form[member] = matching.to_json() if matching else None
+
+
+def _read_mode(members: Members, name: str) -> Optional[str]:
+    return members.word(name, ("smoothed", "anchored")) if members.has(name) else None
+
+
+def _write_mode(form: Dict[str, Any], member: str, mode: Optional[str]) -> None:
+    if mode is not None:
+        form[member] = mode
+
+
+def _read_at(members: Members, name: str) -> Optional[At]:
+    timestamp: Optional[int] = members.whole_or_none("timestamp")
+    if members.value("startOrEnd") is None:
+        return timestamp
+    if timestamp is not None:
+        raise members.error("timestamp", "expected null beside startOrEnd")
+    return cast(At, members.word("startOrEnd", ("start", "end")))
+
+
+def _write_at(form: Dict[str, Any], member: str, at: Optional[At]) -> None:
+    form["startOrEnd"], form["timestamp"] = (at, None) if isinstance(at, str) else (None, at)
+
+
+def _read_function(members: Members, name: str) -> str:
+    func, word = members.value(name), str(members.below(name).text("name"))
+    if word not in FUNCTIONS:
+        raise FormError(f"{members.path}.{name}.name", "expected the name of a function")
+    if func != FUNCTIONS[word].to_json():
+        raise members.error(name, f"expected the function {word}")
+    return word
+
+
+def _write_function(form: Dict[str, Any], member: str, name: str) -> None:
+    """(without its function's, where there is none of this name)"""
+    if name in FUNCTIONS:
+        form[member] = FUNCTIONS[name].to_json()
+
+
+_EXPR = Kind((Expr,), "an expression")
+FIELD_KINDS.update(
+    {
+        "Expr": _EXPR,
+        "Optional[Expr]": Kind((Expr, NoneType), "an expression or None"),
+        "Tuple[Expr, ...]": Kind((tuple,), "a tuple of expressions", item=_EXPR),
+        "Optional[Matching]": Kind((Matching, NoneType), "Matching or None", _read_matching, _write_matching),
+        "Optional[RangeMode]": Kind((str, NoneType), "a string or None", _read_mode, _write_mode),
+        "Optional[At]": Kind((int, str, NoneType), "a whole number, a string or None", _read_at, _write_at),
+        "FunctionName": Kind((str,), "a string", _read_function, _write_function),
+    }
+)
 
 
 @with_slots
@@ -138,8 +204,6 @@ _EXPR_OR_NONE = one(Expr, "an expression", or_none=True)
 class Aggregation(Expr):
     """An aggregation: `op` is `sum`, `topk` and so on. `grouping` has the labels after `by`, or after `without` where that is true.
     `param` is what operators such as `topk` have before the expression."""
-
-    CHECKS: ClassVar[Dict[str, Check]] = {"op": text, "expr": _EXPR, "grouping": texts, "without": flag, "param": _EXPR_OR_NONE}
 
     TYPE: ClassVar[str] = "aggregation"
     CHILDREN: ClassVar[Tuple[str, ...]] = ("param", "expr")
@@ -150,33 +214,17 @@ class Aggregation(Expr):
     without: bool = False
     param: Optional[Expr] = None
 
-    def members(self) -> Dict[str, Any]:
-        return {"grouping": list(self.grouping), "op": self.op, "param": None, "without": self.without}
-
-    @classmethod
-    def read(cls, members: Members, children: Dict[str, Any]) -> Aggregation:
-        return cls(members.text("op"), grouping=members.texts("grouping"), without=members.flag("without"), **children)
-
 
 @with_slots
 @dataclass(frozen=True, repr=False, eq=False)
 class Unary(Expr):
     """A minus before an expression."""
 
-    CHECKS: ClassVar[Dict[str, Check]] = {"expr": _EXPR}
-
     TYPE: ClassVar[str] = "unaryExpr"
     CHILDREN: ClassVar[Tuple[str, ...]] = ("expr",)
+    FIXED: ClassVar[Dict[str, str]] = {"op": "-"}
 
     expr: Expr
-
-    def members(self) -> Dict[str, Any]:
-        return {"op": "-"}
-
-    @classmethod
-    def read(cls, members: Members, children: Dict[str, Any]) -> Unary:
-        members.word("op", ("-",))
-        return cls(**children)
 
 
 @with_slots
@@ -184,16 +232,9 @@ class Unary(Expr):
 class Binary(Expr):
     """A binary expression: `op` is `+`, `==`, `and` and so on, and `return_bool` says whether the word `bool` is there."""
 
-    CHECKS: ClassVar[Dict[str, Check]] = {
-        "lhs": _EXPR,
-        "op": text,
-        "rhs": _EXPR,
-        "return_bool": flag,
-        "matching": one(Matching, "Matching", or_none=True),
-    }
-
     TYPE: ClassVar[str] = "binaryExpr"
     CHILDREN: ClassVar[Tuple[str, ...]] = ("lhs", "rhs")
+    RENAMED: ClassVar[Dict[str, str]] = {"return_bool": "bool"}
 
     lhs: Expr
     op: str
@@ -201,21 +242,11 @@ class Binary(Expr):
     return_bool: bool = False
     matching: Optional[Matching] = None
 
-    def members(self) -> Dict[str, Any]:
-        return {"bool": self.return_bool, "matching": self.matching.to_json() if self.matching else None, "op": self.op}
-
-    @classmethod
-    def read(cls, members: Members, children: Dict[str, Any]) -> Binary:
-        matching = None if members.value("matching") is None else Matching.read(members.below("matching"))
-        return cls(op=members.text("op"), return_bool=members.flag("bool"), matching=matching, **children)
-
 
 @with_slots
 @dataclass(frozen=True, repr=False, eq=False)
 class Paren(Expr):
     """An expression in parentheses."""
-
-    CHECKS: ClassVar[Dict[str, Check]] = {"expr": _EXPR}
 
     TYPE: ClassVar[str] = "parenExpr"
     CHILDREN: ClassVar[Tuple[str, ...]] = ("expr",)
@@ -229,8 +260,6 @@ class Subquery(Expr):
     """A subquery: its range, its step and its offset are milliseconds. `at` is the time after `@`: milliseconds since the epoch, `start`
     or `end`."""
 
-    CHECKS: ClassVar[Dict[str, Check]] = {"expr": _EXPR, "range": whole, "step": whole_or_none, "offset": whole, "at": time_after_at}
-
     TYPE: ClassVar[str] = "subquery"
     CHILDREN: ClassVar[Tuple[str, ...]] = ("expr",)
 
@@ -240,23 +269,14 @@ class Subquery(Expr):
     offset: int = 0
     at: Optional[At] = None
 
-    def members(self) -> Dict[str, Any]:
-        return {"range": self.range, "step": self.step, **_times(self.offset, self.at)}
-
-    @classmethod
-    def read(cls, members: Members, children: Dict[str, Any]) -> Subquery:
-        step = members.whole_or_none("step")
-        return cls(range=members.whole("range"), step=step, offset=members.whole("offset"), at=_read_at(members), **children)
-
 
 @with_slots
 @dataclass(frozen=True, repr=False, eq=False)
 class Number(Expr):
     """A number. It has at most 38 digits, and they are exact, so its value is a text, as it prints: `0.5`, `-Inf`, `NaN`."""
 
-    CHECKS: ClassVar[Dict[str, Check]] = {"value": text}
-
     TYPE: ClassVar[str] = "numberLiteral"
+    RENAMED: ClassVar[Dict[str, str]] = {"value": "val"}
 
     value: str
 
@@ -280,31 +300,16 @@ class Number(Expr):
         """Its value."""
         return Decimal(self.value)
 
-    def members(self) -> Dict[str, Any]:
-        return {"val": self.value}
-
-    @classmethod
-    def read(cls, members: Members, children: Dict[str, Any]) -> Number:
-        return cls(members.text("val"))
-
 
 @with_slots
 @dataclass(frozen=True, repr=False, eq=False)
 class String(Expr):
     """A string: its text without the quotes."""
 
-    CHECKS: ClassVar[Dict[str, Check]] = {"value": text}
-
     TYPE: ClassVar[str] = "stringLiteral"
+    RENAMED: ClassVar[Dict[str, str]] = {"value": "val"}
 
     value: str
-
-    def members(self) -> Dict[str, Any]:
-        return {"val": self.value}
-
-    @classmethod
-    def read(cls, members: Members, children: Dict[str, Any]) -> String:
-        return cls(members.text("val"))
 
 
 @with_slots
@@ -312,14 +317,6 @@ class String(Expr):
 class Selector(Expr):
     """A selector: its name before the braces or None, and its matchers. `or_matchers` are the groups between `or`, and `matchers` those
     that are in none. The offset is milliseconds, and `at` the time after `@`: milliseconds since the epoch, `start` or `end`."""
-
-    CHECKS: ClassVar[Dict[str, Check]] = {
-        "name": text_or_none,
-        "matchers": MATCHERS,
-        "or_matchers": GROUPS,
-        "offset": whole,
-        "at": time_after_at,
-    }
 
     TYPE: ClassVar[str] = "vectorSelector"
 
@@ -333,22 +330,14 @@ class Selector(Expr):
         """The same with a matcher more: in each group, where there are groups."""
         return cast(Selector, _with_matcher(self, matcher))
 
-    def members(self) -> Dict[str, Any]:
-        return _selected(self)
-
-    @classmethod
-    def read(cls, members: Members, children: Dict[str, Any]) -> Selector:
-        return cls(**_read_selected(members))
-
 
 @with_slots
 @dataclass(frozen=True, repr=False, eq=False)
 class RangeSelector(Expr):
     """A selector with a range of milliseconds, as in `foo[5m]`. `mode` is `smoothed`, `anchored` or None; all else is as in Selector."""
 
-    CHECKS: ClassVar[Dict[str, Check]] = {**Selector.CHECKS, "range": whole, "mode": text_or_none}
-
     TYPE: ClassVar[str] = "matrixSelector"
+    RENAMED: ClassVar[Dict[str, str]] = {"mode": "rangeMode"}
 
     name: Optional[str]
     range: int
@@ -362,27 +351,17 @@ class RangeSelector(Expr):
         """The same with a matcher more: in each group, where there are groups."""
         return cast(RangeSelector, _with_matcher(self, matcher))
 
-    def members(self) -> Dict[str, Any]:
-        mode = {} if self.mode is None else {"rangeMode": self.mode}
-        return {"range": self.range, **mode, **_selected(self)}
-
-    @classmethod
-    def read(cls, members: Members, children: Dict[str, Any]) -> RangeSelector:
-        mode: Any = members.word("rangeMode", ("smoothed", "anchored")) if members.has("rangeMode") else None
-        return cls(range=members.whole("range"), mode=mode, **_read_selected(members))
-
 
 @with_slots
 @dataclass(frozen=True, repr=False, eq=False)
 class Call(Expr):
     """A call of the function of this name."""
 
-    CHECKS: ClassVar[Dict[str, Check]] = {"name": text, "args": tuple_of(_EXPR, "expressions")}
-
     TYPE: ClassVar[str] = "call"
     CHILDREN: ClassVar[Tuple[str, ...]] = ("args",)
+    RENAMED: ClassVar[Dict[str, str]] = {"name": "func"}
 
-    name: str
+    name: FunctionName
     args: Tuple[Expr, ...] = ()
 
     @property
@@ -390,69 +369,11 @@ class Call(Expr):
         """The function, with its types; None where there is none of this name."""
         return FUNCTIONS.get(self.name)
 
-    def members(self) -> Dict[str, Any]:
-        """(without its function's, where there is none of this name)"""
-        return {"func": self.function.to_json()} if self.function else {}
-
-    @classmethod
-    def read(cls, members: Members, children: Dict[str, Any]) -> Call:
-        func = members.value("func")
-        name = members.below("func").text("name")
-        if name not in FUNCTIONS:
-            raise FormError(f"{members.path}.func.name", "expected the name of a function")
-        if func != FUNCTIONS[name].to_json():
-            raise members.error("func", f"expected the function {name}")
-        return cls(name, **children)
-
-
-# ---- what selectors and subqueries share
-
-
-def _count(value: object) -> int:
-    """How many expressions a field has."""
-    return len(value) if isinstance(value, tuple) else int(value is not None)
-
 
 def _with_matcher(selector: Union[Selector, RangeSelector], matcher: Matcher) -> Expr:
     if not selector.or_matchers:
         return selector.replace(matchers=(*selector.matchers, matcher))
     return selector.replace(or_matchers=tuple((*group, matcher) for group in selector.or_matchers))
-
-
-def _selected(selector: Union[Selector, RangeSelector]) -> Dict[str, Any]:
-    groups = [[it.to_json() for it in group] for group in selector.or_matchers]
-    matchers = [it.to_json() for it in selector.matchers]
-    in_groups = {"or_matchers": groups} if groups else {}
-    return {"name": selector.name, "matchers": matchers, **in_groups, **_times(selector.offset, selector.at)}
-
-
-def _read_selected(members: Members) -> Dict[str, Any]:
-    groups: List[Tuple[Matcher, ...]] = []
-    if members.has("or_matchers"):
-        for number, group in enumerate(members.items("or_matchers")):
-            step = f"or_matchers[{number}]"
-            if not isinstance(group, list):
-                raise members.error(step, "expected a list")
-            groups.append(tuple(Matcher.read(Members(it, members, f"{step}[{place}]")) for place, it in enumerate(group)))
-        if not groups:
-            raise members.error("or_matchers", "expected a group")
-    matchers = tuple(map(Matcher.read, members.objects("matchers")))
-    name, offset = members.text_or_none("name"), members.whole("offset")
-    return {"name": name, "matchers": matchers, "or_matchers": tuple(groups), "offset": offset, "at": _read_at(members)}
-
-
-def _times(offset: int, at: Optional[At]) -> Dict[str, Any]:
-    start_or_end = at if isinstance(at, str) else None
-    return {"offset": offset, "startOrEnd": start_or_end, "timestamp": None if isinstance(at, str) else at}
-
-
-def _read_at(members: Members) -> Optional[At]:
-    timestamp = members.whole_or_none("timestamp")
-    if members.value("startOrEnd") is None:
-        return timestamp
-    if timestamp is not None:
-        raise members.error("timestamp", "expected null beside startOrEnd")
-    return cast(At, members.word("startOrEnd", ("start", "end")))
 
 
 _ALL: Tuple[Type[Expr], ...] = (Aggregation, Binary, Call, Number, Paren, RangeSelector, Selector, String, Subquery, Unary)

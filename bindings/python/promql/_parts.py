@@ -4,15 +4,15 @@ from __future__ import annotations
 
 import dataclasses
 from dataclasses import dataclass
-from typing import Any, ClassVar, Dict, Literal, Optional, Tuple, TypeVar, Union, cast
+from typing import Any, ClassVar, Dict, List, Literal, Optional, Tuple, Type, TypeVar, Union, cast
 
-from ._fields import Check, any_of, check_fields, flag, one, text, text_or_none, texts, tuple_of
+from ._fields import KINDS, Field, FormField, Kind, with_slots
 from ._members import Members
-from ._shown import shown
-from ._slots import with_slots
 from .forms import MatchOp
 
 AnyNode = TypeVar("AnyNode", bound="Node")
+MATCH_OPS = ("=", "!=", "=~", "!~")
+KINDS["MatchOp"] = Kind((str,), "a string", lambda members, name: members.word(name, MATCH_OPS))
 
 
 class Node:
@@ -20,11 +20,30 @@ class Node:
 
     __slots__ = ("__weakref__",)
 
-    # What each field may have.
-    CHECKS: ClassVar[Dict[str, Check]] = {}
+    # The fields, and those that are members of the JSON form; the members with another name, and those that are the same in each form.
+    FIELDS: ClassVar[Tuple[Field, ...]] = ()
+    FORM: ClassVar[Tuple[FormField, ...]] = ()
+    RENAMED: ClassVar[Dict[str, str]] = {}
+    FIXED: ClassVar[Dict[str, str]] = {}
 
     def __post_init__(self) -> None:
-        check_fields(self, self.CHECKS)
+        """Raises TypeError where a field has a value of another type, and ValueError where a whole number is out of range."""
+        for name, kind, default in self.FIELDS:
+            value = getattr(self, name)
+            fault = None if value is default or type(value) in kind.sure else kind.fault(value)
+            if fault:
+                item, expected, error = fault
+                got = f", got {type(value).__name__}" if error is TypeError and not item else ""
+                raise error(f"{type(self).__name__}.{name}{item}: expected {expected}{got}")
+
+    @classmethod
+    def read(cls: Type[AnyNode], members: Members, children: Dict[str, Any] = {}) -> AnyNode:
+        """Makes it of the members of its JSON form, and of what its fields with expressions have."""
+        for name, word in cls.FIXED.items():
+            members.word(name, (word,))
+        found = {name: read(members, member) for name, member, read, _ in cls.FORM}
+        members.end()
+        return cls(**found, **children)
 
     @classmethod
     def field_names(cls) -> Tuple[str, ...]:
@@ -45,7 +64,39 @@ class Node:
 
     def __repr__(self) -> str:
         """The call that makes it: without the fields that are as they are where nothing is said, and without the names of the first ones."""
-        return shown(self)
+        return _shown(self)
+
+
+def _shown(value: object) -> str:
+    """The `repr` of a value, that of nodes made without recursion: a query may have more levels than Python's recursion limit."""
+    found: List[str] = []
+    left: List[Tuple[bool, object]] = [(False, value)]
+    while left:
+        is_text, value = left.pop()
+        if is_text:
+            found.append(cast(str, value))
+        elif dataclasses.is_dataclass(value):
+            left.extend(reversed([(True, f"{type(value).__name__}("), *_words_of(value), (True, ")")]))
+        elif type(value) is tuple:
+            items: List[Tuple[bool, object]] = [part for item in value for part in ((True, ", "), (False, item))]
+            left.extend(reversed([(True, "("), *items[1:], (True, ",)" if len(value) == 1 else ")")]))
+        else:
+            found.append(repr(value))
+    return "".join(found)
+
+
+def _words_of(node: object) -> List[Tuple[bool, object]]:
+    """The fields to be shown, with what is between them."""
+    words: List[Tuple[bool, object]] = []
+    for field in dataclasses.fields(cast(Any, node)):
+        value = getattr(node, field.name)
+        if field.default is dataclasses.MISSING:
+            words.extend(((True, ", "), (False, value)))
+        elif type(value) is not type(field.default) or value != field.default:
+            words.extend(((True, f", {field.name}="), (False, value)))
+    if words:
+        words[0] = (True, cast(str, words[0][1])[2:])
+    return words
 
 
 @with_slots
@@ -53,7 +104,7 @@ class Node:
 class Matcher(Node):
     """A matcher: a label, an operator, `=`, `!=`, `=~` or `!~`, and a value, which is a pattern after `=~` and `!~`."""
 
-    CHECKS: ClassVar[Dict[str, Check]] = {"name": text, "op": text, "value": text}
+    RENAMED: ClassVar[Dict[str, str]] = {"op": "type"}
 
     name: str
     op: MatchOp
@@ -68,19 +119,11 @@ class Matcher(Node):
     def to_json(self) -> Dict[str, Any]:
         return {"name": self.name, "type": self.op, "value": self.value}
 
-    @classmethod
-    def read(cls, members: Members) -> Matcher:
-        found = cls(members.text("name"), cast(Any, members.word("type", ("=", "!=", "=~", "!~"))), members.text("value"))
-        members.end()
-        return found
-
 
 @with_slots
 @dataclass(frozen=True, repr=False)
 class ManyToOne(Node):
     """`group_left`, with its labels."""
-
-    CHECKS: ClassVar[Dict[str, Check]] = {"labels": texts}
 
     labels: Tuple[str, ...] = ()
 
@@ -90,17 +133,43 @@ class ManyToOne(Node):
 class OneToMany(Node):
     """`group_right`, with its labels."""
 
-    CHECKS: ClassVar[Dict[str, Check]] = {"labels": texts}
-
     labels: Tuple[str, ...] = ()
 
 
 Cardinality = Union[Literal["one-to-one", "many-to-many"], ManyToOne, OneToMany]
 
 
-_GROUPING = any_of(one(ManyToOne, "ManyToOne"), one(OneToMany, "OneToMany"), one(str, "a string, ManyToOne or OneToMany"))
-MATCHERS = tuple_of(one(Matcher, "Matcher"), "Matcher")
-GROUPS = tuple_of(MATCHERS, "tuples of Matcher")
+def _write_matchers(form: Dict[str, Any], member: str, matchers: Tuple[Matcher, ...]) -> None:
+    form[member] = [it.to_json() for it in matchers]
+
+
+def _read_groups(members: Members, name: str) -> Tuple[Tuple[Matcher, ...], ...]:
+    groups: List[Tuple[Matcher, ...]] = []
+    if not members.has(name):
+        return ()
+    for number, group in enumerate(members.items(name)):
+        step = f"{name}[{number}]"
+        if not isinstance(group, list):
+            raise members.error(step, "expected a list")
+        groups.append(tuple(Matcher.read(Members(it, members, f"{step}[{place}]")) for place, it in enumerate(group)))
+    if not groups:
+        raise members.error(name, "expected a group")
+    return tuple(groups)
+
+
+def _write_groups(form: Dict[str, Any], member: str, groups: Tuple[Tuple[Matcher, ...], ...]) -> None:
+    if groups:
+        form[member] = [[it.to_json() for it in group] for group in groups]
+
+
+def _read_matchers(members: Members, name: str) -> Tuple[Matcher, ...]:
+    return tuple(map(Matcher.read, members.objects(name)))
+
+
+_MATCHERS = Kind((tuple,), "a tuple of Matcher", _read_matchers, _write_matchers, Kind((Matcher,), "Matcher"))
+KINDS["Tuple[Matcher, ...]"] = _MATCHERS
+KINDS["Tuple[Tuple[Matcher, ...], ...]"] = Kind((tuple,), "a tuple of tuples of Matcher", _read_groups, _write_groups, _MATCHERS)
+KINDS["Cardinality"] = Kind((str, ManyToOne, OneToMany), "a string, ManyToOne or OneToMany")
 
 
 @with_slots
@@ -111,8 +180,6 @@ class Matching(Node):
     `card` says how many elements of one side match how many of the other: `one-to-one`, `many-to-many`, which only `and`, `or` and
     `unless` have, ManyToOne or OneToMany. `fill_left` and `fill_right` are the texts of numbers, or None.
     """
-
-    CHECKS: ClassVar[Dict[str, Check]] = {"on": flag, "labels": texts, "card": _GROUPING, "fill_left": text_or_none, "fill_right": text_or_none}
 
     on: bool = False
     labels: Tuple[str, ...] = ()
@@ -137,7 +204,7 @@ class Matching(Node):
         return {"card": card, "fillValues": fill, "include": [], "labels": list(self.labels), "on": self.on}
 
     @classmethod
-    def read(cls, members: Members) -> Matching:
+    def read(cls, members: Members, children: Dict[str, Any] = {}) -> Matching:
         fill = members.below("fillValues")
         left, right = fill.text_or_none("lhs"), fill.text_or_none("rhs")
         fill.end()

@@ -145,14 +145,14 @@ def form_of(tree: Expr) -> Form:
         expr = place.expr
         if isinstance(expr, Call) and expr.function is None:
             raise NodeError(f"there is no function '{expr.name}'", f"{path_of(places, place)}.func.name", expr)
-        form: Dict[str, Any] = {"type": expr.TYPE, **expr.members()}
+        form = expr.members()
         # (those of the children were made before, the last one first)
         for name in expr.CHILDREN:
             value = getattr(expr, name)
-            if isinstance(value, Expr):
-                form[name] = forms.pop()
-            elif value is not None:
+            if isinstance(value, tuple):
                 form[name] = [forms.pop() for _ in value]
+            else:
+                form[name] = None if value is None else forms.pop()
         forms.append(form)
     return cast(Form, forms.pop())
 
@@ -190,7 +190,6 @@ def tree_of(form: object) -> Expr:
         for name, count in counts:
             children[name] = built.pop() if count is None else tuple(built.pop() for _ in range(count))
         built.append(KINDS[members.value("type")].read(members, children))
-        members.end()
     return built.pop()
 
 
