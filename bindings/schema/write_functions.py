@@ -7,6 +7,7 @@ usage: bindings/schema/write_functions.py [--check]   with --check it writes not
 
 import json
 import sys
+import textwrap
 from pathlib import Path
 from typing import Any, Dict, List, Sequence
 
@@ -16,15 +17,22 @@ Rows = List[Dict[str, Any]]
 
 
 def python_table(rows: Rows) -> str:
-    def row(it: Dict[str, Any]) -> str:
+    """(the functions of one type in one row, since most have one of a few)"""
+    names: Dict[str, List[str]] = {}
+    for it in rows:
         types = "".join(f'"{type_}", ' for type_ in it["argTypes"])
         types = types[:-1] if len(it["argTypes"]) == 1 else types[:-2]
-        return f'    ("{it["name"]}", ({types}), {it["variadic"]}, "{it["returnType"]}", {it["experimental"]}),'
-
-    kind = "Tuple[Tuple[str, Tuple[ValueType, ...], int, ValueType, bool], ...]"
-    head = [f'"""The functions of the language. {HEADER}"""', "", "from __future__ import annotations", ""]
+        type_ = f'({types}), {it["variadic"]}, "{it["returnType"]}", {it["experimental"]}'
+        names.setdefault(type_, []).append(it["name"])
+    lines = []
+    for type_, some in names.items():
+        texts = textwrap.wrap(" ".join(some), 120)
+        first, *others = [f'"{text}{" " * (text is not texts[-1])}"' for text in texts]
+        lines += [f"    ({type_}, {first}),"] if not others else [f"    ({type_}, (", *(f"        {it}" for it in (first, *others)), "    )),"]
+    kind = "Tuple[Tuple[Tuple[ValueType, ...], int, ValueType, bool, str], ...]"
+    head = [f'"""The functions of the language, by their types. {HEADER}"""', "", "from __future__ import annotations", ""]
     head += ["from typing import Tuple", "", "from .forms import ValueType", "", f"ROWS: {kind} = ("]
-    return "\n".join([*head, *map(row, rows), ")", ""])
+    return "\n".join([*head, *lines, ")", ""])
 
 
 def go_table(rows: Rows) -> str:

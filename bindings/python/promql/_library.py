@@ -5,7 +5,8 @@ from __future__ import annotations
 
 import ctypes
 from contextlib import suppress
-from typing import Any, Iterable, List, Optional, Tuple
+from functools import partial
+from typing import Any, Callable, Iterable, List, Optional, Tuple
 
 from ._answers import Answer, Failure, Lines, Mode, Status, library_path
 
@@ -26,16 +27,10 @@ class Result(ctypes.Structure):
 _QUERY = [ctypes.c_char_p, ctypes.c_size_t]
 _BUFFER = [ctypes.c_char_p, ctypes.c_size_t, ctypes.POINTER(Result)]
 _SIGNATURES = {
+    **{f"promql_{name}": [*_QUERY, *_BUFFER] for name in ("canonical", "check", "collect", "differences", "parts", "places", "tokens")},
     "promql_print": [*_QUERY, ctypes.c_uint32, ctypes.c_uint32, ctypes.c_size_t, *_BUFFER],
-    "promql_canonical": [*_QUERY, *_BUFFER],
     "promql_enforce": [*_QUERY, *_QUERY, *_BUFFER],
     "promql_rename": [*_QUERY, ctypes.c_uint32, *_QUERY, *_QUERY, *_BUFFER],
-    "promql_collect": [*_QUERY, *_BUFFER],
-    "promql_places": [*_QUERY, *_BUFFER],
-    "promql_parts": [*_QUERY, *_BUFFER],
-    "promql_differences": [*_QUERY, *_BUFFER],
-    "promql_tokens": [*_QUERY, *_BUFFER],
-    "promql_check": [*_QUERY, *_BUFFER],
     "promql_explain": [*_QUERY, ctypes.c_uint32, *_BUFFER],
     "promql_snippet": [*_QUERY, ctypes.c_size_t, ctypes.c_size_t, *_BUFFER],
     "promql_print_tree": [*_QUERY, ctypes.c_uint32, ctypes.c_uint32, ctypes.c_size_t, ctypes.c_uint32, *_BUFFER],
@@ -101,8 +96,15 @@ def _about(name: str, room: int, text: str, *arguments: Any) -> Answer:
     return _answer(call(name, room * len(encoded), encoded, len(encoded), *arguments))
 
 
-def canonical(query: str) -> Answer:
-    return _about("promql_canonical", 2, query)
+# Those about a query alone.
+_AboutQuery = Callable[[str], Answer]
+canonical: _AboutQuery = partial(_about, "promql_canonical", 2)
+check: _AboutQuery = partial(_about, "promql_check", 0)
+collect: _AboutQuery = partial(_about, "promql_collect", 4)
+differences: _AboutQuery = partial(_about, "promql_differences", 2)
+parts: _AboutQuery = partial(_about, "promql_parts", 8)
+places: _AboutQuery = partial(_about, "promql_places", 4)
+tokens: _AboutQuery = partial(_about, "promql_tokens", 16)
 
 
 def canonical_many(queries: Iterable[str]) -> Lines:
@@ -116,14 +118,6 @@ def canonical_many(queries: Iterable[str]) -> Lines:
             failures.append((len(lines), query, answer))
         lines.append(answer if isinstance(answer, str) else None)
     return lines, failures
-
-
-def check(query: str) -> Answer:
-    return _about("promql_check", 0, query)
-
-
-def collect(query: str) -> Answer:
-    return _about("promql_collect", 4, query)
 
 
 def enforce(query: str, matcher: str) -> Answer:
@@ -160,19 +154,6 @@ def snippet(query: str, start: int, end: int) -> Answer:
     return _about("promql_snippet", 2, query, start, end)
 
 
-def places(query: str) -> Answer:
-    return _about("promql_places", 4, query)
-
-
-def parts(query: str) -> Answer:
-    return _about("promql_parts", 8, query)
-
-
-def differences(query: str) -> Answer:
-    encoded = _encoded(query)
-    return _answer(call("promql_differences", 2 * len(encoded), encoded, len(encoded)))
-
-
 def print_tree(form: str, mode: int, level: int, width: int, parentheses: int) -> Answer:
     return _about("promql_print_tree", 1, form, mode, level, width, parentheses)
 
@@ -186,10 +167,6 @@ def set_limits(max_len: int, max_pattern_size: int, max_output: int, max_tree: i
 def set_target(number: int) -> None:
     if _library.promql_set_target(number) != Status.OK:
         raise ValueError(f"no target has the number {number}")
-
-
-def tokens(query: str) -> Answer:
-    return _about("promql_tokens", 16, query)
 
 
 def version() -> Answer:

@@ -35,4 +35,5 @@ class Function(NamedTuple):
         }
 
 
-FUNCTIONS: Mapping[str, Function] = MappingProxyType({row[0]: Function(*row) for row in ROWS})
+_FUNCTIONS = [Function(name, types, variadic, value, is_new) for types, variadic, value, is_new, names in ROWS for name in names.split()]
+FUNCTIONS: Mapping[str, Function] = MappingProxyType({it.name: it for it in sorted(_FUNCTIONS)})
