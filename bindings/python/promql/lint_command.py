@@ -77,19 +77,17 @@ def _read(arguments: argparse.Namespace, target: Target) -> Document:
 def _lint_file(arguments: argparse.Namespace, target: Target) -> Report:
     selection = Selection(tuple(sum(arguments.select, ())), tuple(sum(arguments.ignore, ())), arguments.steps)
     document = _read(arguments, target)
-    if arguments.fix:
-        return _fix_file(arguments, selection, target, document)
-    return _report(arguments, document, selection, [])
-
-
-def _fix_file(arguments: argparse.Namespace, selection: Selection, target: Target, document: Document) -> Report:
-    """Writes the file, or prints it where it is none, and reports what is left."""
     linter = FileLinter(document, selection, shared=arguments.shared)
+    return _fix_file(arguments, target, linter, document) if arguments.fix else _report(arguments, linter, document, [])
+
+
+def _fix_file(arguments: argparse.Namespace, target: Target, linter: FileLinter, document: Document) -> Report:
+    """Writes the file, or prints it where it is none, and reports what is left."""
     text, count = linter.fixed()
     source = document.source
     if isinstance(document, GivenQuery):
         source = source._replace(text=text)
-        linter = FileLinter(GivenQuery(source, document.checker.anew()), selection)
+        linter = linter.over(GivenQuery(source, document.checker.anew()))
         found = linter.findings()
         status = Status.FAILED if linter.left else Status.FINE
         messages = [_message(source, it)._replace(text=source.shown(fault_of(it))) for it in found]
@@ -97,15 +95,16 @@ def _fix_file(arguments: argparse.Namespace, selection: Selection, target: Targe
         return Report(status, as_bytes(text if text.endswith("\n") else f"{text}\n"), messages, 1)
     if target.name == STDIN:
         return Report(Status.FINE, as_bytes(source.mark + text), [], len(document.queries))
-    if count:
-        write_file(source, (source.mark + text).encode())
-        document = linter.fixed_document
-    return _report(arguments, document, selection, [counted(count, "query fixed", "queries fixed")] if count else [])
+    if not count:
+        # (what is known of the rules of a file is known of it as it stays)
+        return _report(arguments, linter, document, [])
+    write_file(source, (source.mark + text).encode())
+    fixed = linter.fixed_document
+    return _report(arguments, linter.over(fixed), fixed, [counted(count, "query fixed", "queries fixed")])
 
 
-def _report(arguments: argparse.Namespace, document: Document, selection: Selection, notes: List[str]) -> Report:
+def _report(arguments: argparse.Namespace, linter: FileLinter, document: Document, notes: List[str]) -> Report:
     source = document.source
-    linter = FileLinter(document, selection, shared=arguments.shared)
     found = linter.findings()
     status = Status.FAILED if linter.left else Status.FINE
     messages = list(left_out(document, arguments.verbose))

@@ -143,6 +143,10 @@ class FileLinter:
         if isinstance(document, RuleFile):
             self._take_rules(document)
 
+    def over(self, document: Document) -> FileLinter:
+        """The same that looks at another document."""
+        return FileLinter(document, self._selection, self._looks, self._has_fixes, self._shared)
+
     def _take_rules(self, file: RuleFile) -> None:
         budget = Budget(self._budget.most)
         found = rules_of(file, budget, self._shared)

@@ -4,6 +4,7 @@ from __future__ import annotations
 
 import re
 from functools import partial
+from itertools import chain
 from typing import Dict, FrozenSet, Iterator, List, NamedTuple, Optional, Set, Tuple
 
 import promql
@@ -204,7 +205,11 @@ def _end(rule: Node) -> int:
         if id(collection) in seen:
             continue
         seen.add(id(collection))
-        parts = collection.value if collection.kind == "sequence" else [part for entry in collection.value for part in entry]
-        end = max(end, *(part.end for part in parts if part.kind == "scalar" and part.start >= start), end)
-        todo += [part for part in parts if part.kind != "scalar" and part.start >= start]
+        for part in collection.value if collection.kind == "sequence" else chain.from_iterable(collection.value):
+            if part.start < start:
+                continue
+            if part.kind != "scalar":
+                todo.append(part)
+            elif part.end > end:
+                end = part.end
     return end
