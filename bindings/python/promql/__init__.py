@@ -291,10 +291,13 @@ def print_tree(tree: Mapping[str, object], *, parentheses: bool = False, width: 
     because of a type or of parentheses, say, and TooLargeTreeError where its JSON text or its line is not within the limits (`set_limits`).
     """
     form = json.dumps(tree, ensure_ascii=False, separators=(",", ":"))
-    if width is None:
-        return _tree_text(_caller.print_tree(form, Mode.LINE, 0, 0, int(parentheses)))
-    level, width = _number("level", level, _MAX_LEVEL), _number("width", width, _MAX_WIDTH)
-    return _tree_text(_caller.print_tree(form, Mode.PRETTY, level, width, int(parentheses)))
+    mode, sizes = Mode.LINE, (0, 0)
+    if width is not None:
+        mode, sizes = Mode.PRETTY, (_number("level", level, _MAX_LEVEL), _number("width", width, _MAX_WIDTH))
+    answer = _caller.print_tree(form, mode, *sizes, int(parentheses))
+    if not isinstance(answer, str):
+        raise _tree_error(answer)
+    return answer
 
 
 def pretty(query: str, *, width: int = 100, level: int = 0) -> str:
@@ -495,13 +498,6 @@ def _text(query: str, answer: Answer) -> str:
     raise _error(query, answer)
 
 
-def _tree_text(answer: Answer) -> str:
-    """Returns the text of a call about a tree, or raises its error."""
-    if isinstance(answer, str):
-        return answer
-    raise _tree_error(answer)
-
-
 def _tree_error(failure: Failure) -> Exception:
     """The error of a call about a tree."""
     status, message = failure[:2]
@@ -554,16 +550,12 @@ def _numbered(error: Exception, number: int) -> Exception:
 def _error_of_one(query: str, failure: Optional[Failure]) -> Union[QueryError, UnicodeEncodeError]:
     """The error of one query among many, which has a surrogate where there is no failure. Raises what is no error of the query."""
     if failure is None:
-        return _surrogate_error(query)
+        try:
+            str.encode(query)
+        except UnicodeEncodeError as surrogate:
+            return surrogate
+        raise ValueError("the query has no surrogate")
     error = _error(query, failure)
     if not isinstance(error, QueryError):
         raise error
     return error
-
-
-def _surrogate_error(query: str) -> UnicodeEncodeError:
-    try:
-        str.encode(query)
-    except UnicodeEncodeError as error:
-        return error
-    raise ValueError("the query has no surrogate")

@@ -4,7 +4,7 @@ JSON form, and how it is written there. A node has a slot for each of its fields
 from __future__ import annotations
 
 import dataclasses
-from typing import Any, Callable, Dict, NamedTuple, Optional, Tuple, Type, TypeVar, cast
+from typing import Any, Callable, Dict, Optional, Tuple, Type, TypeVar, cast
 
 from ._members import HIGHEST, LOWEST, Members, NoneType
 
@@ -65,21 +65,9 @@ KINDS: Dict[str, Kind] = {
 }
 
 
-class Field(NamedTuple):
-    """A field of a node, its kind, and what it has where nothing is said."""
-
-    name: str
-    kind: Kind
-    default: object
-
-
-class FormField(NamedTuple):
-    """A field of a node that is a member of its form, by its kind."""
-
-    name: str
-    member: str
-    read: Read
-    write: Optional[Write]
+# A field of a node, its kind, and what it has where nothing is said; one that is a member of the form, that, and how it is read and written.
+Field = Tuple[str, Kind, object]
+FormField = Tuple[str, str, Read, Optional[Write]]
 
 
 def with_slots(kind: Type[AnyClass]) -> Type[AnyClass]:
@@ -102,8 +90,8 @@ def with_slots(kind: Type[AnyClass]) -> Type[AnyClass]:
             raise dataclasses.FrozenInstanceError(f"cannot assign to field {name!r}")
 
     kinds = {it.name: KINDS[str(it.type)] for it in fields}
-    members["FIELDS"] = tuple(Field(it.name, kinds[it.name], it.default) for it in fields)
-    members["FORM"] = tuple(FormField(name, renamed.get(name, name), it.read, it.write) for name, it in kinds.items() if it.read)
+    members["FIELDS"] = tuple((it.name, kinds[it.name], it.default) for it in fields)
+    members["FORM"] = tuple((name, renamed.get(name, name), it.read, it.write) for name, it in kinds.items() if it.read)
     members.update(__slots__=names, __setattr__=set_attribute, __delattr__=delete_attribute)
     made = cast(Any, type(kind))(kind.__name__, kind.__bases__, members)
     made.__qualname__ = kind.__qualname__

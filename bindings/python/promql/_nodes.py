@@ -140,10 +140,6 @@ def _count(value: object) -> int:
 # ---- the fields that expressions alone have
 
 
-def _read_matching(members: Members, name: str) -> Optional[Matching]:
-    return None if members.value(name) is None else Matching.read(members.below(name))
-
-
 def _write_matching(form: Dict[str, Any], member: str, matching: Optional[Matching]) -> None:
     form[member] = matching.to_json() if matching else None
 
@@ -191,7 +187,7 @@ FIELD_KINDS.update(
         "Expr": _EXPR,
         "Optional[Expr]": Kind((Expr, NoneType), "an expression or None"),
         "Tuple[Expr, ...]": Kind((tuple,), "a tuple of expressions", item=_EXPR),
-        "Optional[Matching]": Kind((Matching, NoneType), "Matching or None", _read_matching, _write_matching),
+        "Optional[Matching]": Kind((Matching, NoneType), "Matching or None", lambda it, name: it.value(name) and Matching.read(it.below(name)), _write_matching),
         "Optional[RangeMode]": Kind((str, NoneType), "a string or None", _read_mode, _write_mode),
         "Optional[At]": Kind((int, str, NoneType), "a whole number, a string or None", _read_at, _write_at),
         "FunctionName": Kind((str,), "a string", _read_function, _write_function),

@@ -3,17 +3,17 @@
 from __future__ import annotations
 
 import json
-from typing import Any, Callable, Dict, List, NamedTuple, Optional, Tuple, cast
+from typing import Any, Callable, Dict, List, NamedTuple, Optional, Protocol, Tuple, Type, Union, cast
 
 import promql
 
 from ._answers import Answer, Mode
 from ._calls import calls
 from ._members import FormError, Members
-from ._node_calls import node_calls
 from ._nodes import KINDS, Aggregation, Binary, Call, Expr, Number, Paren, RangeSelector, Selector, String, Subquery, Unary
-from ._parts import Matcher, Matching
+from ._parts import ManyToOne, Matcher, Matching, Node, OneToMany
 from .forms import Form, ValueType
+from .functions import FUNCTIONS
 
 
 class Place(NamedTuple):
@@ -64,15 +64,12 @@ def first_without_text(tree: Expr, has_text: Callable[[Expr], bool]) -> Tuple[st
         expr = place.expr
         # (those of the children are the last ones, the first child's at the end)
         children = [below.pop() for _ in expr.children()]
-        if not _is_read_in_its_call(places, place) and not has_text(_over_stand_ins(expr, children)):
+        # (the second argument of `info`, a selector, need not be a query by itself)
+        is_part = place.step == "args[1]" and isinstance(expr, Selector) and _is_info(places[place.above].expr)
+        if not is_part and not has_text(_over_stand_ins(expr, children)):
             return path_of(places, place), expr
         below.append((expr, _value_type(expr, children)))
     return "$", tree
-
-
-def _is_read_in_its_call(places: List[Place], place: Place) -> bool:
-    """Whether it is the second argument of `info`, a selector that need not be a query by itself."""
-    return place.step == "args[1]" and isinstance(place.expr, Selector) and _is_info(places[place.above].expr)
 
 
 def _is_info(expr: Expr) -> bool:
@@ -111,10 +108,34 @@ def _over_stand_ins(expr: Expr, children: List[Tuple[Expr, ValueType]]) -> Expr:
     return expr.with_children(made)
 
 
+class NodeCalls(Protocol):
+    """The calls of the extension that makes nodes, and writes their form, itself. Without one it is done here, with the same trees."""
+
+    def learn_nodes(self, classes: Tuple[Tuple[Type[Node], Tuple[str, ...]], ...], forms: Dict[str, bytes], /) -> None:
+        """Tells it the classes, in the order of `enum kind` of _native.h, with their fields, and the forms of the functions."""
+
+    def read_tree(self, query: str, /) -> Union[Expr, Answer]:
+        """The tree of a query, or the text of its form where that is another one than is known, or why there is none."""
+
+    def print_nodes(self, tree: Expr, mode: int, level: int, width: int, /) -> Optional[Answer]:
+        """The text of a tree in parentheses where it needs them, or why there is none; None where its form is not written."""
+
+
+def _calls_of_nodes() -> Optional[NodeCalls]:
+    """Those of the extension; None where there is none, or it is of an older release."""
+    if not hasattr(calls, "learn_nodes"):
+        return None
+    found = cast(NodeCalls, calls)
+    kinds: Tuple[Type[Node], ...] = (*KINDS.values(), Matcher, Matching, ManyToOne, OneToMany)
+    forms = {name: json.dumps(function.to_json(), separators=(",", ":")).encode() for name, function in FUNCTIONS.items()}
+    found.learn_nodes(tuple((kind, kind.field_names()) for kind in kinds), forms)
+    return found
+
+
 _TOO_DEEP = "nested too deeply"
 # The most nodes above one another that are read.
 _MOST_HEIGHT = 100_000
-_node_calls = node_calls()
+_node_calls = _calls_of_nodes()
 
 
 class NodeError(promql.Error):

@@ -43,7 +43,7 @@ def add_parser(subparsers: Any) -> None:
     output.add_argument("--check", action="store_true", help="print the names of the files that would change")
     output.add_argument("--diff", action="store_true", help="print what would change")
     output.add_argument("--write", action="store_true", help="change the files")
-    parser.add_argument("--width", type=_width, help=f"columns of a line ({WIDTH})")
+    parser.add_argument("--width", type=lambda text: min(whole_number(text), sys.maxsize), help=f"columns of a line ({WIDTH})")
     parser.add_argument("--indent", type=whole_number, default=2, metavar="N", help="spaces of an indentation for people (2)")
     parser.add_argument("--style", choices=STYLES, help="how queries are laid out: people keeps comments, pretty does not (people)")
     meant = parser.add_mutually_exclusive_group()
@@ -52,10 +52,6 @@ def add_parser(subparsers: Any) -> None:
     meant.add_argument("--enforce", metavar="MATCHER", help="put a matcher, such as namespace='team-a', into every selector")
     parser.add_argument("--max-output", type=whole_number, metavar="N", help="the most bytes of a layout (4194304)")
     parser.set_defaults(run=_run, command="format")
-
-
-def _width(text: str) -> int:
-    return min(whole_number(text), sys.maxsize)
 
 
 @dataclass(frozen=True)
@@ -135,11 +131,6 @@ def _short_output() -> ContextManager[None]:
     """Lays out no more than a query may have."""
     limits = promql.limits()
     return limited_to(max_output=min(limits["max_output"], limits["max_len"]))
-
-
-def is_short(query: str) -> bool:
-    """Whether a query is not too long to be read."""
-    return len(query.encode()) <= promql.limits()["max_len"]
 
 
 def _enforcer(matcher: Optional[str]) -> Callable[[str], str]:
@@ -268,7 +259,7 @@ def _changes(document: Document, printer: Printer, messages: List[Message]) -> L
         except RecursionError:
             complain(query, "nested too deeply")
             continue
-        if text is not None and not is_short(text):
+        if text is not None and len(text.encode()) > promql.limits()["max_len"]:
             text, left = None, _TOO_LONG
         if text is None and printer.enforces:
             complain(query, f"not enforced: {left}")

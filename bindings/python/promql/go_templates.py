@@ -146,13 +146,10 @@ def _number(text: str, at: int) -> Tuple[_Token, int]:
     found = _NUMBER.match(text, at)
     assert found
     after = text[found.end() : found.end() + 1]
-    if after.isalnum() or after in ("_", "+", "-") and after or not (_WHOLE.fullmatch(found[0]) or _is_float(found[0])):
+    is_number = _WHOLE.fullmatch(found[0]) or _FLOAT.fullmatch(found[0]) and re.search("[.eEpPi]", found[0])
+    if after.isalnum() or after in ("_", "+", "-") and after or not is_number:
         raise TemplateError(f"`{found[0]}{after.strip()}` is not a number")
     return _Token("number", found[0]), found.end()
-
-
-def _is_float(text: str) -> bool:
-    return bool(_FLOAT.fullmatch(text) and re.search("[.eEpPi]", text))
 
 
 class _Parser:

@@ -14,6 +14,7 @@ import socket
 import socketserver
 import sys
 import time
+from contextlib import suppress
 from functools import partial
 from http import HTTPStatus
 from http.server import BaseHTTPRequestHandler, ThreadingHTTPServer
@@ -204,12 +205,9 @@ def serve(port: int = DEFAULT_PORT) -> int:
     except OSError as error:
         print(f"port {port}: {error.strerror}", file=sys.stderr)
         return 1
-    with server:
+    with server, suppress(KeyboardInterrupt):
         print(f"http://{ADDRESS}:{server.server_port}/", flush=True)
-        try:
-            server.serve_forever()
-        except KeyboardInterrupt:
-            pass
+        server.serve_forever()
     return 0
 
 

@@ -67,11 +67,6 @@ class RuleChecks:
         self._identities: Dict[int, _Identity] = {}
         self._templates = Budget(_MOST_IN_TEMPLATES)
 
-    def look_at_file(self, root: Node, fields: FrozenSet[str]) -> None:
-        """Looks at a mapping with `groups`, of which these are all fields."""
-        if root.kind == "mapping":
-            self._look_at_fields(root, "file", fields)
-
     def look_at_groups(self, groups: List[Node], object_kind: str) -> None:
         """Looks at the groups of a file, or of an object of this kind."""
         self._names, self._rules, self._fields = set(), set(), _OBJECT_FIELDS.get(object_kind, frozenset())
@@ -89,7 +84,7 @@ class RuleChecks:
         self._look_at_rules(group)
 
     def _look_at_group(self, group: Node, name: str) -> None:
-        self._look_at_fields(group, "group", _GROUP_FIELDS | self._fields)
+        self.look_at_fields(group, "group", _GROUP_FIELDS | self._fields)
         value = self._mappings.value(group, "name")
         if value and not value.is_scalar():
             self._complain(self._place(group, "name"), "`name` is not a text")
@@ -110,7 +105,7 @@ class RuleChecks:
             self._look_for_same(rule)
 
     def _look_at_rule(self, rule: Node) -> None:
-        self._look_at_fields(rule, "rule", _RULE_FIELDS | self._fields)
+        self.look_at_fields(rule, "rule", _RULE_FIELDS | self._fields)
         record, alert = self._mappings.name(rule, "record"), self._mappings.name(rule, "alert")
         if record and alert:
             self._complain(self._place(rule, "alert"), "a rule with both `record` and `alert`")
@@ -140,10 +135,7 @@ class RuleChecks:
         """Warns of a rule with the name and the labels of one before it."""
         if id(rule) not in self._identities:
             name = self._mappings.name(rule, "alert") or self._mappings.name(rule, "record")
-            entries = [entry for entry in self._labels(rule, "labels") if entry[0].is_scalar() and entry[1].is_scalar()]
-            # (an own label comes before one that is merged)
-            labels = {key.value: value.value for key, value in reversed(entries)}
-            self._identities[id(rule)] = (name, frozenset(labels.items()))
+            self._identities[id(rule)] = (name, self._mappings.labels(self._mappings.value(rule, "labels")))
         identity = self._identities[id(rule)]
         if identity not in self._rules:
             self._rules.add(identity)
@@ -152,7 +144,7 @@ class RuleChecks:
                 Fault(rule.start, rule.start, "warning: a rule with this name and these labels is there before")
             )
 
-    def _look_at_fields(self, mapping: Node, part: str, fields: FrozenSet[str]) -> None:
+    def look_at_fields(self, mapping: Node, part: str, fields: FrozenSet[str]) -> None:
         """Complains of fields that are unknown or there twice, also in what is merged."""
         self._look_at_keys(mapping)
         for key, _ in mapping.value:
@@ -162,7 +154,7 @@ class RuleChecks:
                 self._complain(key, f"unknown field `{key.value}`")
         for other in self._merged(mapping):
             if self._is_new(f"merged into a {part}", other):
-                self._look_at_fields(other, part, fields)
+                self.look_at_fields(other, part, fields)
 
     def _merged(self, mapping: Node) -> Iterator[Node]:
         """The mappings that are merged into one; complains of what is none."""

@@ -73,11 +73,8 @@ def is_logql(query: str) -> bool:
         # (no filter and no stage is after braces)
         return False
     tokens = [token.text for token in code_of(query)]
-    return any(text == "}" and _is_pipeline(tokens[number : number + 3]) for number, text in enumerate(tokens, 1))
-
-
-def _is_pipeline(texts: Sequence[str]) -> bool:
-    return "".join(texts).startswith(_FILTERS) or len(texts) > 1 and texts[0] == "|" and texts[1] in _STAGES
+    after = (tokens[number : number + 3] for number, text in enumerate(tokens, 1) if text == "}")
+    return any("".join(it).startswith(_FILTERS) or it[:1] == ["|"] and it[1:2] and it[1] in _STAGES for it in after)
 
 
 def documents_of(root: Node, mappings: Mappings, looks_inside: bool = True) -> Iterator[RuleDocument]:
@@ -170,13 +167,10 @@ def _in_mapping(node: Node, mappings: Mappings) -> Iterator[RuleDocument]:
     if query and query.is_text():
         yield RuleDocument(Kind.UNREAD, query, False, "not looked at: an `expr` that is in no rule of a group")
     for name, value in node.value:
-        if name.is_scalar() and value.is_text() and value.style and _is_file(name.value, value.value):
-            yield RuleDocument(Kind.TEXT, value, False, name=name)
-
-
-def _is_file(name: str, text: str) -> bool:
-    """Whether a text is a file that may have queries."""
-    return name.endswith(_RULES_END) and "groups:" in text or is_board(name) and '"expr"' in text
+        if name.is_scalar() and value.is_text() and value.style:
+            # (a text that is a file may have queries)
+            if name.value.endswith(_RULES_END) and "groups:" in value.value or is_board(name.value) and '"expr"' in value.value:
+                yield RuleDocument(Kind.TEXT, value, False, name=name)
 
 
 def is_board(name: str) -> bool:

@@ -125,7 +125,7 @@ class RuleFile(Document):
                 if document.kind is not Kind.RULES:
                     continue
                 if document.is_whole:
-                    found.look_at_file(document.owner, _FIELDS)
+                    found.look_at_fields(document.owner, "file", _FIELDS)
                 if document.key == "rules":
                     found.look_at_rules(document.owner)
                 else:

@@ -6,7 +6,7 @@ from __future__ import annotations
 import re
 import sys
 from array import array
-from typing import Any, Callable, Dict, Iterable, Iterator, List, Match, NamedTuple, Optional, Sequence, Set, Tuple
+from typing import Any, Callable, Dict, FrozenSet, Iterable, Iterator, List, Match, NamedTuple, Optional, Sequence, Set, Tuple
 
 from .files import BLANKS, BREAK, FileError
 from .queries import Edit, PlacedText
@@ -91,6 +91,7 @@ class Mappings:
         self._merged_entries: Dict[Tuple[int, str], Optional[Entry]] = {}
         self._sought: Set[Tuple[int, str]] = set()
         self._answers: Dict[Tuple[str, int], bool] = {}
+        self._labels: Dict[int, FrozenSet[Tuple[str, str]]] = {}
         self._walked = 0
 
     def entry(self, mapping: Node, key: str) -> Optional[Entry]:
@@ -155,6 +156,14 @@ class Mappings:
         self._walked += len(mapping.value)
         if self._walked > _MOST_ENTRIES:
             raise FileError(f"{self._name}: its merge keys make more than {_MOST_ENTRIES:,} entries of it")
+
+    def labels(self, owner: Optional[Node]) -> FrozenSet[Tuple[str, str]]:
+        """The labels of a mapping whose names and values are scalars."""
+        if owner and owner.kind == "mapping" and id(owner) not in self._labels:
+            # (an own label comes before one that is merged)
+            entries = reversed([it for it in self.entries(owner) if it[0].is_scalar() and it[1].is_scalar()])
+            self._labels[id(owner)] = frozenset({str(key.value): str(value.value) for key, value in entries}.items())
+        return self._labels.get(id(owner), frozenset())
 
     def merged(self, mapping: Node) -> Iterator[Node]:
         """What is merged into a mapping."""

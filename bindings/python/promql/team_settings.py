@@ -32,8 +32,8 @@ _UNSET = limits()
 Table = Dict[str, Any]
 
 
-def _is_texts(value: Any) -> bool:
-    return isinstance(value, list) and all(isinstance(item, str) for item in value)
+def _is_list(kind: type) -> Callable[[Any], bool]:
+    return lambda value: isinstance(value, list) and all(isinstance(item, kind) for item in value)
 
 
 def _is_number(value: Any) -> bool:
@@ -44,7 +44,7 @@ def _one_of(words: Tuple[str, ...]) -> Tuple[Callable[[Any], bool], str]:
     return (lambda value: value in words), f"one of {', '.join(words)}"
 
 
-_TEXTS, _NUMBER = (_is_texts, "a list of texts"), (_is_number, f"a number from 0 to {MOST}")
+_TEXTS, _NUMBER = (_is_list(str), "a list of texts"), (_is_number, f"a number from 0 to {MOST}")
 # The keys of each table: whether a value is right, and what it is to be.
 _CODES = {"select": _TEXTS, "ignore": _TEXTS, "add": _TEXTS}
 _KEYS: Dict[str, Dict[str, Tuple[Callable[[Any], bool], str]]] = {
@@ -56,7 +56,7 @@ _KEYS: Dict[str, Dict[str, Tuple[Callable[[Any], bool], str]]] = {
         "width": _NUMBER,
         "style": _one_of(STYLES),
         "limits": (lambda value: isinstance(value, dict), "a table"),
-        "paths": (lambda value: isinstance(value, list) and all(isinstance(it, dict) for it in value), "a list of tables"),
+        "paths": (_is_list(dict), "a list of tables"),
     },
     "limits": {name.replace("_", "-"): _NUMBER for name in (*limits(), *FileBounds._fields)},
     "paths": {"files": _TEXTS, "ignore": _TEXTS, "add": _TEXTS},

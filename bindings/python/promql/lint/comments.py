@@ -5,6 +5,7 @@ from __future__ import annotations
 
 import re
 from bisect import bisect_left
+from dataclasses import dataclass
 from functools import lru_cache
 from typing import FrozenSet, Iterable, List, NamedTuple, Set, Tuple
 
@@ -71,15 +72,14 @@ def silenced_by(line: str) -> List[Silenced]:
 _LINE = re.compile(r"[^\r\n]*(?:\r\n|\r|\n|\Z)")
 
 
+@dataclass(eq=False)
 class Comment:
-    """A comment, `text[start:end]` of a file, and the words that it has for codes."""
+    """A comment, `text[start:end]` of a file, the words that it has for codes, and whether it silences a finding."""
 
-    def __init__(self, start: int, end: int, words: Tuple[str, ...]) -> None:
-        self.start = start
-        self.end = end
-        self.words = words
-        # Whether it silences a finding.
-        self.is_used = False
+    start: int
+    end: int
+    words: Tuple[str, ...]
+    is_used: bool = False
 
     def silences(self, codes: Set[str]) -> bool:
         return any(not codes.isdisjoint(codes_of(word)) for word in self.words)

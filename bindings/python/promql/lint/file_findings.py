@@ -20,7 +20,7 @@ from ..scalars import Scalar
 from . import found_in, look_at
 from .comments import Comment, Ignored, Silences, codes_of, ignored_in, silenced_in
 from .findings import Finding, Fix, Severity, Span, TextEdit, Tree
-from .fixes import all_fixed, right_of
+from .fixes import MOST_READS, all_fixed, right_of
 from .records import SharedRecords
 from .rule_places import MOST_INTERVALS, RulePlace, rules_of
 from .subject import IsWritten, RuleContext, always
@@ -90,8 +90,6 @@ MOST_FINDINGS = 5_000
 MOST_CONTEXTS = 16
 # The most characters of changed queries that a report on a file has.
 _MOST_FIXED = 4_194_304
-# How often a file is read at most to find which fixes are right.
-_MOST_READS = 24
 
 _UNUSED = "the comment silences nothing: no such finding is there"
 # A query, and the text that is to be there instead.
@@ -135,7 +133,7 @@ class FileLinter:
         self._unused: List[Comment] = []
         self._fixed_length = 0
         self._budget, self._compared = document.checker.lint_tokens, Budget(_MOST_COMPARED)
-        self._reads = _MOST_READS
+        self._reads = MOST_READS
         # The document that a text with fixes was read as, and the edits that make this text.
         self.fixed_document = document
         self.fixed_edits: List[Edit] = []
@@ -149,18 +147,18 @@ class FileLinter:
 
     def _take_rules(self, file: RuleFile) -> None:
         budget = Budget(self._budget.most)
-        found = rules_of(file, budget, self._shared)
-        for rule in found.places:
+        places, cut = rules_of(file, budget, self._shared)
+        for rule in places:
             self._rules.setdefault(rule.query_end, []).append(rule)
         for text in file.texts:
-            for rule in rules_of(text.document, budget, self._shared).places if isinstance(text.document, RuleFile) else ():
+            for rule in rules_of(text.document, budget, self._shared)[0] if isinstance(text.document, RuleFile) else ():
                 placed = RulePlace(text.at(rule.start), text.at(rule.end), text.at(rule.query_end), rule.context)
                 self._rules.setdefault(placed.query_end, []).append(placed)
         if not budget.takes(0):
             message = f"not looked for: all rules in a circle, of which the queries have more than {budget.most:,} tokens (--max-lint-tokens)"
             self.left.append(Fault(0, 0, message))
         message = f"its aliases are in groups of more than {MOST_INTERVALS} intervals: the rule is looked at with {MOST_INTERVALS} of these"
-        self.left += [Fault(at, at, message) for at in found.cut]
+        self.left += [Fault(at, at, message) for at in cut]
 
     def findings(self) -> List[FileFinding]:
         found: List[FileFinding] = []
@@ -312,7 +310,7 @@ class FileLinter:
     def fixed(self) -> Tuple[str, int]:
         """The text of the file with all fixes in it, and how many queries that changes."""
         changes = [change for change in map(self._change, self._document.queries) if change]
-        self._reads = _MOST_READS
+        self._reads = MOST_READS
         text = self._with(changes)
         if text is None:
             changes = self._right(changes[: len(changes) // 2]) + self._right(changes[len(changes) // 2 :])

@@ -3,7 +3,7 @@
 from __future__ import annotations
 
 from bisect import bisect_left, insort
-from typing import Any, Callable, Dict, Iterator, List, NamedTuple, Optional, Sequence, Set, Tuple, TypeVar
+from typing import Any, Callable, Dict, Iterator, List, Optional, Sequence, Set, Tuple, TypeVar
 
 import promql
 
@@ -16,8 +16,8 @@ Item = TypeVar("Item")
 _MOST_ROUNDS = 20
 # Of so few fixes each is checked by itself. More are checked together, by halves where they are not right together.
 _FEW = 4
-# How often a query is read at most to check what is found in it, and to fix it.
-_MOST_READS = 24
+# How often a query is read at most to check what is found in it, and to fix it; and a file, to find which fixes are right.
+MOST_READS = 24
 
 
 def right_of(items: Sequence[Item], are_right: Callable[[Sequence[Item]], bool], goes_on: Callable[[], bool]) -> List[Item]:
@@ -28,11 +28,8 @@ def right_of(items: Sequence[Item], are_right: Callable[[Sequence[Item]], bool],
     return right_of(items[:half], are_right, goes_on) + right_of(items[half:], are_right, goes_on) if half and goes_on() else []
 
 
-class Changed(NamedTuple):
-    """A query that fixes make, with its tree."""
-
-    query: str
-    tree: Tree
+# A query that fixes make, with its tree.
+Changed = Tuple[str, Tree]
 
 
 class FixChecker:
@@ -41,7 +38,7 @@ class FixChecker:
     def __init__(self, query: str, tree: Tree) -> None:
         self._query = query
         self._tree = tree
-        self._reads = _MOST_READS
+        self._reads = MOST_READS
         self._comments = comments_of(query)
 
     def checked(self, fixes: Sequence[Optional[Fix]]) -> List[Optional[Fix]]:
@@ -68,7 +65,7 @@ class FixChecker:
         if comments_of(changed) != self._comments:
             return None
         changes = {id(old): new for fix in fixes for old, new in fix.changes}
-        return Changed(changed, tree) if _is_meant(self._tree, changes, tree) else None
+        return (changed, tree) if _is_meant(self._tree, changes, tree) else None
 
     def best_change(self, fixes: Sequence[Fix]) -> Optional[Changed]:
         """What as many of the fixes make as are right together, as far as that is found."""

@@ -27,11 +27,7 @@ _SCRIPTS = frozenset(
     Warang_Citi Yezidi Yi Zanabazar_Square
     """.split()
 )
-_CATEGORIES = frozenset(
-    """
-    C Cc Cf Co Cs L Ll Lm Lo Lt Lu M Mc Me Mn N Nd Nl No P Pc Pd Pe Pf Pi Po Ps S Sc Sk Sm So Z Zl Zp Zs  Any
-    """.split()
-)
+_CATEGORIES = frozenset("C Cc Cf Co Cs L Ll Lm Lo Lt Lu M Mc Me Mn N Nd Nl No P Pc Pd Pe Pf Pi Po Ps S Sc Sk Sm So Z Zl Zp Zs Any".split())
 _POSIX = frozenset("alnum alpha ascii blank cntrl digit graph lower print punct space upper word xdigit".split())
 _COUNT = re.compile(r"\{(0|[1-9][0-9]*)(,?)(0|[1-9][0-9]*)?\}")
 _NAMED = re.compile(r"\(\?P<([^>]*)>")

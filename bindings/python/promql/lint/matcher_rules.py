@@ -136,22 +136,23 @@ def pattern_of_a_part(subject: Subject) -> Iterator[Remark]:
             yield Remark(_span(subject, node, matcher), message)
 
 
+def _of_everything(subject: Subject, operator: str, told: str) -> Iterator[Remark]:
+    """(without the matcher Prometheus before 3.0 gives series with a line end in the value as well, so there is no fix)"""
+    for node, matcher in _with_pattern(subject):
+        if matcher.operator == operator and patterns.matches_everything(matcher.value):
+            yield Remark(_span(subject, node, matcher), f"`{_shown(matcher)}` matches {told}")
+
+
 @rule("P106", "matches-all", Severity.WARNING, needs="~")
 def matches_all(subject: Subject) -> Iterator[Remark]:
     """A matcher that every value matches, also none."""
-    for node, matcher in _with_pattern(subject):
-        if matcher.operator == "=~" and patterns.matches_everything(matcher.value):
-            # (without it Prometheus before 3.0 gives series with a line end in the value as well, so there is no fix)
-            message = f"`{_shown(matcher)}` matches every series, also those without the label: leave it out"
-            yield Remark(_span(subject, node, matcher), message)
+    return _of_everything(subject, "=~", "every series, also those without the label: leave it out")
 
 
 @rule("P107", "matches-none", Severity.ERROR, needs="~")
 def matches_none(subject: Subject) -> Iterator[Remark]:
     """A matcher that no value matches."""
-    for node, matcher in _with_pattern(subject):
-        if matcher.operator == "!~" and patterns.matches_everything(matcher.value):
-            yield Remark(_span(subject, node, matcher), f"`{_shown(matcher)}` matches no series without a line end in the label")
+    return _of_everything(subject, "!~", "no series without a line end in the label")
 
 
 def _matches(subject: Subject, matcher: SeenMatcher, value: str) -> Optional[bool]:

@@ -159,8 +159,6 @@ class RecordsReader:
     def __init__(
         self, mappings: Mappings, groups: Iterable[Node], take: Callable[[str], None], file: str = "", shared: Optional[SharedRecords] = None
     ) -> None:
-        self._mappings = mappings
-        self._labels: Dict[int, FrozenSet[Tuple[str, str]]] = {}
         found = [(mappings.value(group, "rules"), mappings.value(group, "labels")) for group in groups]
         with_labels = {id(items) for items, labels in found if labels}
         lists = {id(items): items for items, _ in found}
@@ -169,7 +167,7 @@ class RecordsReader:
             for rule in mappings_in(items):
                 name, query, labels = (mappings.value(rule, key) for key in ("record", "expr", "labels"))
                 if name and query and name.is_scalar() and query.is_scalar():
-                    given = None if id(items) in with_labels else self._labels_in(labels)
+                    given = None if id(items) in with_labels else mappings.labels(labels)
                     self.rules[id(rule)] = RecordedRule(str(name.value), str(query.value), given)
         self.records = shared.records if shared else Records(self.rules.values(), take)
         # The queries of rules before others, by these, that record the same metric with the same labels.
@@ -182,10 +180,3 @@ class RecordsReader:
             if same is not None and it.labels is not None:
                 self.same[node] = same
             first.setdefault(key, it.query)
-
-    def _labels_in(self, owner: Optional[Node]) -> FrozenSet[Tuple[str, str]]:
-        if owner and owner.kind == "mapping" and id(owner) not in self._labels:
-            # (an own label comes before one that is merged)
-            entries = reversed([it for it in self._mappings.entries(owner) if it[0].is_scalar() and it[1].is_scalar()])
-            self._labels[id(owner)] = frozenset({str(key.value): str(value.value) for key, value in entries}.items())
-        return self._labels.get(id(owner), frozenset())

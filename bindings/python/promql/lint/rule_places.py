@@ -50,11 +50,8 @@ class _Named(NamedTuple):
     queries: Tuple[str, ...] = ()
 
 
-class RulePlaces(NamedTuple):
-    """The rules of a file, and where those are that aliases put into groups of too many intervals."""
-
-    places: List[RulePlace]
-    cut: List[int]
+# The rules of a file, and where those are that aliases put into groups of too many intervals.
+RulePlaces = Tuple[List[RulePlace], List[int]]
 
 
 def rules_of(file: RuleFile, budget: Budget, shared: Optional[SharedRecords] = None) -> RulePlaces:
@@ -100,7 +97,7 @@ class _Reader:
             name = self._mappings.text(rule, "record") if interval else ""
             if name and interval:
                 recorded[name] = min(interval, recorded.get(name, interval))
-        return RulePlaces([place for part in parts for place in self._place(*part, recorded)], sorted(self._cut.values()))
+        return [place for part in parts for place in self._place(*part, recorded)], sorted(self._cut.values())
 
     def _parts(self) -> Iterator[Tuple[Optional[int], Node]]:
         """Each rule with each interval of its groups."""

@@ -258,15 +258,11 @@ class Subject:
     def is_below(self, node: Tree, is_meant: Callable[[Tree], bool]) -> bool:
         """Whether a node of this kind is anywhere above a node."""
         if is_meant not in self._below:
-            self._below[is_meant] = self._all_below(is_meant)
+            found = self._below[is_meant] = set()
+            for above in self.nodes:
+                if id(above) in found or is_meant(above):
+                    found.update(map(id, children_of(above)))
         return id(node) in self._below[is_meant]
-
-    def _all_below(self, is_meant: Callable[[Tree], bool]) -> Set[int]:
-        found: Set[int] = set()
-        for node in self.nodes:
-            if id(node) in found or is_meant(node):
-                found.update(map(id, children_of(node)))
-        return found
 
     @cached_property
     def compares_patterns(self) -> bool:
@@ -293,13 +289,10 @@ class Subject:
     def matcher_groups(self, node: Tree) -> List[List[SeenMatcher]]:
         """The matchers of a selector that all have to hold, for each group of an `or`."""
         if id(node) not in self._groups:
-            self._groups[id(node)] = self._read_groups(node)
+            seen = {id(it): SeenMatcher(it["name"], it["type"], it["value"], it) for it in _listed(node)}
+            groups = ([*node["matchers"], *group] for group in node.get("or_matchers", [[]]))
+            self._groups[id(node)] = [[seen[id(it)] for it in group] for group in groups]
         return self._groups[id(node)]
-
-    def _read_groups(self, node: Tree) -> List[List[SeenMatcher]]:
-        groups = [[*node["matchers"], *group] for group in node.get("or_matchers", [[]])]
-        seen = {id(it): SeenMatcher(it["name"], it["type"], it["value"], it) for it in _listed(node)}
-        return [[seen[id(it)] for it in group] for group in groups]
 
     def matcher_place(self, node: Tree, matcher: SeenMatcher) -> Optional[MatcherPlace]:
         """Where a matcher of a selector is; a name in quotes has no place. (Few queries have a finding for which that is asked.)"""

@@ -115,7 +115,9 @@ def on_hover(workspace: Workspace, params: Any) -> Any:
     if metric and workspace.prometheus:
         told = workspace.prometheus.help(metric.name)
         workspace.wait_for_server()
-        text += f"\n\nOn the server: {_plain(told)}" if told else ""
+        # (in Markdown, as it is)
+        plain = re.sub(r"([^\w\s])", r"\\\1", " ".join(told[:_LONGEST_HELP].split()))
+        text += f"\n\nOn the server: {plain}" if told else ""
     for document, start, _ in navigation.records(workspace.all, metric.name) if metric else ():
         rule = next(rule for rule in document.rules if rule.record_start == start)
         for query in rule.queries[:1]:
@@ -124,11 +126,6 @@ def on_hover(workspace: Workspace, params: Any) -> Any:
         "contents": {"kind": "markdown", "value": text},
         "range": at.document.range_in(at.place.query, found.start, found.end),
     }
-
-
-def _plain(text: str) -> str:
-    """A text of a server, in Markdown."""
-    return re.sub(r"([^\w\s])", r"\\\1", " ".join(text[:_LONGEST_HELP].split()))
 
 
 def on_completion(workspace: Workspace, params: Any) -> Any:

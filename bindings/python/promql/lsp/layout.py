@@ -41,7 +41,8 @@ def rule_file_edits(text: str, span: Optional[Span], settings: Settings = Settin
 def _edits_in(file: Union[Dashboard, RuleFile], span: Optional[Span], settings: Settings, by_rules: bool) -> List[Edit]:
     """The same. By rules, only those that change are read again, where they are few, and not all of the file."""
     text, printers = file.source.text, _Printers(settings)
-    changes = [(query, new) for query in file.queries if _is_in(query, span) for new in [printers.laid_out(query)] if new is not None]
+    queries = [it for it in file.queries if span is None or it.offsets[0] <= span[1] and span[0] <= it.offsets[-1]]
+    changes = [(query, new) for query in queries for new in [printers.laid_out(query)] if new is not None]
     if not changes:
         return []
     edits = [query.spelling.edit(new) for query, new in changes]
@@ -71,10 +72,6 @@ class _Printers:
         except ValueError:
             return None
         return text if text != query.original.rstrip("\n") else None
-
-
-def _is_in(query: Query, span: Optional[Span]) -> bool:
-    return span is None or query.offsets[0] <= span[1] and span[0] <= query.offsets[-1]
 
 
 def _means_the_same_by_rules(file: RuleFile, changes: List[Tuple[Query, str]], edits: List[Edit], settings: Settings) -> bool:

@@ -10,7 +10,7 @@ import time
 from contextlib import suppress
 from multiprocessing.connection import Connection, Pipe
 from pathlib import Path
-from typing import Any, Callable, Dict, List, NamedTuple, Optional
+from typing import Any, Callable, Dict, NamedTuple, Optional
 
 from ..files import FileError
 from .findings import fix_edits, given_query
@@ -94,7 +94,8 @@ class Helper:
         if self._process is None or self._process.poll() is not None:
             self._pipe, theirs = Pipe()
             with theirs:
-                self._process = subprocess.Popen(_command(theirs.fileno()), pass_fds=[theirs.fileno()], **_SILENT, env=_environment())
+                command = [sys.executable, "-m", f"{__package__}.worker", str(theirs.fileno())]
+                self._process = subprocess.Popen(command, pass_fds=[theirs.fileno()], **_SILENT, env=_environment())
             threading.Thread(target=self._receive, args=(self._process, self._pipe), daemon=True).start()
         # (a thread writes, since the process may not read at once)
         threading.Thread(target=_send, args=(self._pipe, job), daemon=True).start()
@@ -138,10 +139,6 @@ def _send(pipe: Connection, job: Job) -> None:
 
 # (what anything writes there would be read by the editor)
 _SILENT: Dict[str, Any] = {"stdin": subprocess.DEVNULL, "stdout": subprocess.DEVNULL}
-
-
-def _command(pipe: int) -> List[str]:
-    return [sys.executable, "-m", f"{__package__}.worker", str(pipe)]
 
 
 def _environment() -> Dict[str, str]:
