@@ -112,7 +112,7 @@ def _table(made: Dict[str, Any]) -> Iterator[str]:
         width, states = (max((len(row[at]) for row in rows), default=0) for at in (0, 1))
         yield from [f"{kind.upper()}: {len(rows):,}"] if rows else []
         for name, state, count, places in rows:
-            yield f"  {name:{min(width, _WIDEST)}}  {state:{states}}  {count:>5}  {places}".rstrip()
+            yield f"  {name:<{min(width, _WIDEST)}}  {state:<{states}}  {count:>5}  {places}".rstrip()
 
 
 def _row(entry: Dict[str, Any]) -> Tuple[str, str, str, str]:
