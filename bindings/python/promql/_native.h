@@ -4,7 +4,7 @@
 #define PY_SSIZE_T_CLEAN
 #include <Python.h>
 
-/* The classes of nodes and of their parts, in the order in which _node_calls.py gives them. */
+/* The classes of nodes and of their parts, in the order in which _printing.py gives them. */
 enum kind { AGGREGATION, BINARY, CALL, NUMBER, PAREN, RANGE_SELECTOR, SELECTOR, STRING, SUBQUERY, UNARY, MATCHER, MATCHING, MANY_TO_ONE,
             ONE_TO_MANY, KINDS };
 

@@ -40,6 +40,9 @@ const ENFORCE_OPTIONS: [&str; 3] = ["--target", "--max-len", "--max-patterns"];
 /// The options of a batch.
 const BATCH_OPTIONS: [&str; 4] = ["--target", "--max-len", "--max-patterns", "--max-output"];
 
+/// The options that the program and each subcommand have.
+const COMMON_OPTIONS: [&str; 2] = ["--help", "--version"];
+
 /// The most edits of a word that stands for a name.
 const MAX_EDITS: usize = 3;
 
@@ -85,18 +88,42 @@ pub enum Misuse {
     WrongMode(String, Hint),
 }
 
+/// A name that a word may stand for, and the number of edits from the word to it.
+#[derive(Clone, Copy)]
+struct Near {
+    name: Option<&'static str>,
+    edits: usize,
+}
+
 /// The name that is nearest to a word, if it is near.
 fn nearest(alloc: Global, word: &str, names: &'static [&'static str]) -> Result<Hint, AllocError> {
-    let mut found = None;
-    let mut least = MAX_EDITS + 1;
+    let none = Near {
+        name: None,
+        edits: MAX_EDITS + 1,
+    };
+    let near = nearer(alloc, word, names, none)?;
+    let near = nearer(alloc, word, &COMMON_OPTIONS, near)?;
+    Ok(Hint(near.name))
+}
+
+/// The nearest of these names, where one is nearer than this.
+fn nearer(
+    alloc: Global,
+    word: &str,
+    names: &'static [&'static str],
+    near: Near,
+) -> Result<Near, AllocError> {
+    let mut nearest = near;
     for name in names {
         let edits = levenshtein(alloc, word, name)?;
-        if edits < least && edits < name.len() {
-            found = Some(*name);
-            least = edits;
+        if edits > 0 && edits < nearest.edits && edits < name.len() {
+            nearest = Near {
+                name: Some(*name),
+                edits,
+            };
         }
     }
-    Ok(Hint(found))
+    Ok(nearest)
 }
 
 /// The names of a subcommand's options.
