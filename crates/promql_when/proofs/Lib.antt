@@ -1,0 +1,11 @@
+pub mod AskedTimes
+pub mod ConstantReads
+pub mod Floors
+pub mod LastReads
+pub mod LaterTimes
+pub mod Multiples
+pub mod Orders
+pub mod PinnedReads
+pub mod TreeLists
+pub mod Walking
+pub mod WithinWindows

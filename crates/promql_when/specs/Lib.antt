@@ -1,0 +1,5 @@
+pub mod Last
+pub mod Pinned
+pub mod Reads
+pub mod Walked
+pub mod Windows

@@ -1,0 +1,14 @@
+//! Which samples a query reads, and when: docs/reference/when.md.
+#![tactic(auto)]
+
+mod last;
+pub mod laws;
+mod pinning;
+mod reading;
+mod times;
+mod window;
+
+pub use last::{is_constant, last_read};
+pub use pinning::{PinError, asks_grid, pinned};
+pub use reading::{SelectorWindow, windows};
+pub use times::{Times, Window, WindowsError};
