@@ -4,7 +4,7 @@ use Rattle.std.specs.Prelude.{ℤ}
 use Rattle.std.specs.Int.{int_max}
 use Rattle.std.proofs.lemmas.List.{drop_all, drop_more}
 use Rattle.promql_when.specs.Last.{last_of, later}
-use Rattle.promql_when.specs.Walked.{found_of}
+use Rattle.promql_when.specs.Found.{found_of}
 use Rattle.promql_when.specs.declared.reading.SelectorWindow.{SelectorWindow}
 
 max_of_three : (x y z : ℤ) → int_max (int_max x y) z ≡ int_max x (int_max y z)

@@ -6,6 +6,8 @@ pub mod LaterTimes
 pub mod Multiples
 pub mod Orders
 pub mod PinnedReads
+pub mod PinnedTypes
+pub mod ReachedEnds
 pub mod TreeLists
 pub mod Walking
 pub mod WithinWindows

@@ -1,7 +1,7 @@
 -- The multiples of a step in a window lie in the window that has all of them.
-use Rattle.std.proofs.Common.{◌≡◌, sym, ◌∙◌, ap, subst, ℕ, zero, suc, arith, ◌+◌, ◌*◌, ◌/◌, ◌<◌, ◌≤◌}
-use Rattle.std.proofs.Math.Nat.{mul-le-mul_right, div-mul-le_self, le_trans as up_to}
-use Rattle.std.proofs.lemmas.Nat.{div-mul-add, le-div}
+use Rattle.std.proofs.Common.{◌≡◌, refl, sym, ◌∙◌, ap, subst, ℕ, zero, suc, arith, ◌+◌, ◌-◌, ◌*◌, ◌/◌, ◌%◌, ◌<◌, ◌≤◌}
+use Rattle.std.proofs.Math.Nat.{mul-le-mul_right, div-mul-le_self, le_trans as up_to, mod-lt}
+use Rattle.std.proofs.lemmas.Nat.{div-add-mod', div-mul-add, le-div}
 use Rattle.std.specs.Prelude.{ℤ}
 use Rattle.std.specs.Int.{int_div_euclid, int_gap}
 use Rattle.std.specs.Int.Signed.{◌≤ℤ◌}
@@ -81,3 +81,44 @@ next_is_multiple step x (q, is) = (q +ℤ pos 1, ap (λ x. x +ℤ pos step) is �
 -- so it lies below the floor of what it lies below
 pub below_floor : (step : ℕ) (x y : ℤ) → IsMultiple (suc step) x → x ≤ℤ y → x ≤ℤ floor_to (suc step) y
 below_floor step x y multiple is = subst (λ z. z ≤ℤ floor_to (suc step) y) (floor_of_multiple step x multiple) (floor_keeps step x y is)
+
+-- ---- the last one in a window
+
+under_self : (n s : ℕ) → n / suc s * suc s ≤ n
+under_self n s = div-mul-le_self n (suc s)
+
+pub floor_under : (step : ℕ) (x : ℤ) → floor_to (suc step) x ≤ℤ x
+floor_under step (pos a) = let few = under_self a step in grind (arith, few)
+floor_under step (negsuc a) = grind arith
+
+pub more_is_multiple : (step k : ℕ) (x : ℤ) → IsMultiple step x → IsMultiple step (x +ℤ pos (k * step))
+more_is_multiple step zero x multiple = subst (IsMultiple step) (let same : x ≡ x +ℤ pos (0 * step) = grind arith in same) multiple
+more_is_multiple step (suc k) x multiple =
+    subst (IsMultiple step) (let same : (x +ℤ pos step) +ℤ pos (k * step) ≡ x +ℤ pos (suc k * step) = grind arith in same)
+    (more_is_multiple step k (x +ℤ pos step) (next_is_multiple step x multiple))
+
+quotient_near : (step : ℕ) (q : ℤ) (r : ℕ) → r < suc step → int_div_euclid (q *ℤ pos (suc step) +ℤ pos r) (pos (suc step)) ≡ q
+quotient_near step (pos a) r few = ap pos (div-mul-add a (suc step) r few)
+quotient_near step (negsuc a) r few =
+    let same : negsuc a *ℤ pos (suc step) +ℤ pos r ≡ negsuc (a * suc step + (step - r)) = negative a (suc step) r (step - r) (omega arith) in
+    ap (λ n. int_div_euclid n (pos (suc step))) same ∙ ap negsuc (div-mul-add a (suc step) (step - r) (omega arith))
+  where
+    negative : (a s r u : ℕ) → suc (r + u) ≡ s → negsuc a *ℤ pos s +ℤ pos r ≡ negsuc (a * s + u)
+    negative a s r u is = let more : suc a * s ≡ a * s + s = omega arith in grind (arith, more)
+
+pub floor_near_multiple : (step : ℕ) (x : ℤ) (r : ℕ) → r < suc step → IsMultiple (suc step) x → floor_to (suc step) (x +ℤ pos r) ≡ x
+floor_near_multiple step x r few (q, is) =
+    ap (λ x. int_div_euclid (x +ℤ pos r) (pos (suc step)) *ℤ pos (suc step)) is ∙ ap (λ q. q *ℤ pos (suc step)) (quotient_near step q r few) ∙ sym is
+
+split_gap : (c last : ℤ) (g m r : ℕ) → c ≤ℤ last → g ≡ int_gap c last → m + r ≡ g → last ≡ (c +ℤ pos m) +ℤ pos r
+split_gap c last g m r below is sum = grind arith
+
+-- the last multiple in a window, counted from the first one
+pub last_multiple : (step : ℕ) (first last : ℤ) → ceil_to (suc step) first ≤ℤ last
+    → floor_to (suc step) last ≡ ceil_to (suc step) first +ℤ pos (int_gap (ceil_to (suc step) first) last / suc step * suc step)
+last_multiple step first last below =
+    let c = ceil_to (suc step) first in
+    let g = int_gap c last in
+    let m = g / suc step * suc step in
+    ap (floor_to (suc step)) (split_gap c last g m (g % suc step) below refl (div-add-mod' g (suc step)))
+    ∙ floor_near_multiple step (c +ℤ pos m) (g % suc step) (mod-lt g (omega arith)) (more_is_multiple (suc step) (g / suc step) c (ceil_is_multiple (suc step) first))

@@ -21,7 +21,7 @@ abbrev Reads : Type 0
 Reads = List (Selector × Window)
 
 -- ps many arguments
-counts : (start end : ℤ) (es : Trees) → count (all_pinned start end es) ≡ count es
+pub counts : (start end : ℤ) (es : Trees) → count (all_pinned start end es) ≡ count es
 counts start end no_trees = refl
 counts start end (first_tree e es) = ap (λ n. n + 1) (counts start end es)
 

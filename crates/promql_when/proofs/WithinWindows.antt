@@ -25,11 +25,11 @@ or_or : (a b c : Bool) → a || (b || c) ≡ (a || b) || c
 or_or true b c = refl
 or_or false b c = refl
 
-or_true : (a : Bool) → a || true ≡ true
+pub or_true : (a : Bool) → a || true ≡ true
 or_true true = refl
 or_true false = refl
 
-any_joined : {A : Type 0} (f : A → Bool) (xs ys : List A) → list_any f (xs ++ ys) ≡ list_any f xs || list_any f ys
+pub any_joined : {A : Type 0} (f : A → Bool) (xs ys : List A) → list_any f (xs ++ ys) ≡ list_any f xs || list_any f ys
 any_joined f [] ys = refl
 any_joined f (x ∷ xs) ys = ap (λ t. f x || t) (any_joined f xs ys) ∙ or_or (f x) (list_any f xs) (list_any f ys)
 

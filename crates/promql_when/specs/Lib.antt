@@ -1,3 +1,5 @@
+pub mod Ends
+pub mod Found
 pub mod Last
 pub mod Pinned
 pub mod Reads

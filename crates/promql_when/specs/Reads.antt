@@ -59,26 +59,31 @@ windows ts = folded (λ w. []) (λ one other w. one w ++ other w) (windows_at ts
 abbrev pub lies_within : (Selector → Bool) → ℤ → List (Selector × Option Window) → Bool
 lies_within is_one x = list_any (λ r. is_one r.0 && option_map_or (λ w. is_within w x) r.1 false)
 
--- ---- whether 64 bits hold the windows of all selectors, and those in which subqueries are evaluated
+-- ---- the first node, in the order of a walk, whose window 64 bits do not hold: that of a selector, or that of a subquery's times
 
-abbrev pub fits : Option Window → Bool
-fits w = option_map_or is_fitting w true
+abbrev pub earlier : Option Tree → Option Tree → Option Tree
+earlier None u = u
+earlier (Some t) u = Some t
 
-abbrev pub subquery_fits : Times → Option Shift → Option Moment → ℕ → Option Window → Bool
-subquery_fits ts offset at range w = fits (option_map (subquery_window ts offset at range) w)
+abbrev pub unless_fitting : Tree → Option Window → Option Tree
+unless_fitting t w = if option_map_or is_fitting w true then None else Some t
 
-abbrev pub info_fits : Times → Option Window → Bool
-info_fits ts w = fits (option_map (vector_window ts None None) w)
+abbrev pub subquery_overflow : Times → Tree → Option Shift → Option Moment → ℕ → Option ℕ → Option Window → Option Tree
+subquery_overflow ts e offset at range step w = unless_fitting (subquery e offset at range step) (option_map (subquery_window ts offset at range) w)
 
-abbrev pub fits_at : Times → Tree → (Option Window → Bool) → Option Window → Bool
-fits_at ts (subquery e offset at range step) below w = subquery_fits ts offset at range w && below (inner_window ts offset at range step w)
-fits_at ts (vector (selector name cs offset at)) below w = fits (option_map (vector_window ts offset at) w)
-fits_at ts (matrix (selector name cs offset at) range mode) below w = fits (option_map (matrix_window ts offset at range mode) w)
-fits_at ts (call f args) below w = below w && (if is_bare_info f args then info_fits ts w else true)
-fits_at ts t below w = below w
+abbrev pub info_overflow : Times → Signature → Trees → Option Window → Option Tree
+info_overflow ts f args w = unless_fitting (call f args) (option_map (vector_window ts None None) w)
 
-abbrev pub all_fit : Times → Tree → Option Window → Bool
-all_fit ts = folded (λ w. true) (λ one other w. one w && other w) (fits_at ts)
+abbrev pub overflow_at : Times → Tree → (Option Window → Option Tree) → Option Window → Option Tree
+overflow_at ts (subquery e offset at range step) below w = earlier (subquery_overflow ts e offset at range step w) (below (inner_window ts offset at range step w))
+overflow_at ts (vector (selector name cs offset at)) below w = unless_fitting (vector (selector name cs offset at)) (option_map (vector_window ts offset at) w)
+overflow_at ts (matrix (selector name cs offset at) range mode) below w =
+    unless_fitting (matrix (selector name cs offset at) range mode) (option_map (matrix_window ts offset at range mode) w)
+overflow_at ts (call f args) below w = earlier (below w) (if is_bare_info f args then info_overflow ts f args w else None)
+overflow_at ts t below w = below w
+
+abbrev pub overflow : Times → Tree → Option Window → Option Tree
+overflow ts = folded (λ w. None) (λ one other w. earlier (one w) (other w)) (overflow_at ts)
 
 -- ---- the same of a parameter and of arguments. Private: nothing rests on believing it
 
@@ -94,8 +99,8 @@ maybe_windows ts = maybe_within (λ w. []) (λ one other w. one w ++ other w) (w
 abbrev pub all_windows : Times → Trees → Option Window → List (Selector × Option Window)
 all_windows ts = all_within (λ w. []) (λ one other w. one w ++ other w) (windows_at ts)
 
-abbrev pub maybe_fit : Times → MaybeTree → Option Window → Bool
-maybe_fit ts = maybe_within (λ w. true) (λ one other w. one w && other w) (fits_at ts)
+abbrev pub maybe_overflow : Times → MaybeTree → Option Window → Option Tree
+maybe_overflow ts = maybe_within (λ w. None) (λ one other w. earlier (one w) (other w)) (overflow_at ts)
 
-abbrev pub each_fits : Times → Trees → Option Window → Bool
-each_fits ts = all_within (λ w. true) (λ one other w. one w && other w) (fits_at ts)
+abbrev pub any_overflow : Times → Trees → Option Window → Option Tree
+any_overflow ts = all_within (λ w. None) (λ one other w. earlier (one w) (other w)) (overflow_at ts)

@@ -1,16 +1,17 @@
 //! Up to when a query reads, and which queries are the same at every time: docs/reference/when.md, "Final answers".
 
-ghost use Rattle.std.specs.Prelude.{◌≡◌, ◌≢◌, Some, false, true, IfErr, IfOk, OnOk, option_map};
+ghost use Rattle.std.specs.Prelude.{◌≡◌, None, Some, IfErr, IfOk, OnOk, option_map};
 ghost use Rattle.promql_kind.specs.Functions.{signature_of};
 ghost use Rattle.promql_ast.specs.View.{option_tree, tree_of, trees_of};
+ghost use Rattle.promql_when.specs.Found.{IsErrorAt, found_of};
 ghost use Rattle.promql_when.specs.Last as spec;
 ghost use Rattle.promql_when.specs.Reads as reads;
-ghost use Rattle.promql_when.specs.Reads.{all_fit};
-ghost use Rattle.promql_when.specs.Walked.{found_of};
+ghost use Rattle.promql_when.specs.Reads.{overflow};
 ghost use Rattle.promql_when.specs.Windows.{instant};
 
+use crate::overflow::WindowsError;
 use crate::reading::{SelectorWindow, windows_within};
-use crate::times::{Times, Window, WindowsError};
+use crate::times::{Times, Window};
 use promql_ast::Expr;
 use promql_kind::Function;
 use std::alloc::Global;
@@ -21,17 +22,16 @@ use std::alloc::Global;
 /// # Errors
 ///
 /// Those of `windows`.
-pub fn last_read(
+pub fn last_read<'a>(
     alloc: Global,
-    expr: &Expr,
+    expr: &'a Expr,
     time: i64,
     times: &Times,
-) -> Result<Option<i64>, WindowsError>
+) -> Result<Option<i64>, WindowsError<'a>>
     ensures exact { IfOk result (λ last.
         last ≡ spec.last_of (reads.windows times.now (tree_of expr.now) (Some (instant time)))) }
-    ensures fits { OnOk result (all_fit times.now (tree_of expr.now) (Some (instant time)) ≡ true) }
-    ensures overflow { IfErr result (λ e. e ≢ WindowsError.Memory
-        → all_fit times.now (tree_of expr.now) (Some (instant time)) ≡ false) }
+    ensures fits { OnOk result (overflow times.now (tree_of expr.now) (Some (instant time)) ≡ None) }
+    ensures error { IfErr result (IsErrorAt (overflow times.now (tree_of expr.now) (Some (instant time)))) }
 {
     let window = Window {
         first: time,

@@ -4,11 +4,16 @@ ghost use Rattle.std.specs.Prelude.{◌≡◌, Bool, ℕ, ℤ, map, true, Some};
 ghost use Rattle.std.specs.Int.Signed.{◌≤ℤ◌};
 ghost use Rattle.promql_ast.specs.Selectors.{Selector};
 ghost use Rattle.promql_ast.specs.Tree.{Tree};
+ghost use Rattle.promql_ast.specs.Typed.{Typed};
+ghost use Rattle.promql_ast.specs.Types.{type_of};
+ghost use Rattle.promql_when.specs.Ends as ends;
+ghost use Rattle.promql_when.specs.Ends.{all_evaluated, first_of, has_read_to, has_window_to};
 ghost use Rattle.promql_when.specs.Last.{is_constant, last_of};
 ghost use Rattle.promql_when.specs.Pinned.{over, pinned, pinned_selector};
 ghost use Rattle.promql_when.specs.Reads.{is_read, lies_within, reads, windows};
 ghost use Rattle.promql_when.specs.Windows.{IsAsked, asked, instant};
 ghost use Rattle.promql_when.specs.declared.times.Times.{Times};
+ghost use Rattle.promql_when.specs.declared.times.Window.{Window};
 
 /// What is read at a time of the query lies within its windows: a sample that is read of a selector lies within a window of that
 /// selector.
@@ -33,4 +38,22 @@ pub fn nothing_is_read_after_the_last()
 /// A constant query reads the same at every time.
 pub fn constant_queries_read_the_same()
     ensures { (ts : Times) (t : Tree) (x y : ℤ) → is_constant t ≡ true → reads ts t x ≡ reads ts t y }
+{}
+
+/// Both ends of a window are reached, where each subquery has a time in the first and the last window in which it is evaluated: at the
+/// first time of the query a selector reads from the first millisecond of its window on, and at the last time up to the last one.
+pub fn ends_are_reached()
+    ensures first { (ts : Times) (t : Tree) (w : Window) → asked ts ≡ Some w → all_evaluated first_of ts t w.first ≡ true
+        → (is_asked : Selector → ℤ → Bool) → has_window_to first_of is_asked (windows ts t (Some w)) ≡ true
+        → has_read_to first_of is_asked (reads ts t w.first) ≡ true }
+    ensures last { (ts : Times) (t : Tree) (w : Window) → asked ts ≡ Some w → all_evaluated ends.last_of ts t w.last ≡ true
+        → (is_asked : Selector → ℤ → Bool) → has_window_to ends.last_of is_asked (windows ts t (Some w)) ≡ true
+        → has_read_to ends.last_of is_asked (reads ts t w.last) ≡ true }
+    ensures asked { (ts : Times) (w : Window) → asked ts ≡ Some w → IsAsked ts w.first × IsAsked ts w.last }
+{}
+
+/// A pinned query has the type of the query, and is well typed where the query is.
+pub fn pinned_queries_are_typed()
+    ensures types { (start end : ℤ) (t : Tree) → type_of (pinned start end t) ≡ type_of t }
+    ensures typed { (start end : ℤ) (t : Tree) → Typed t → Typed (pinned start end t) }
 {}

@@ -3,12 +3,14 @@
 
 mod last;
 pub mod laws;
+mod overflow;
 mod pinning;
 mod reading;
 mod times;
 mod window;
 
 pub use last::{is_constant, last_read};
+pub use overflow::{TimedNode, WindowsError};
 pub use pinning::{PinError, asks_grid, pinned};
 pub use reading::{SelectorWindow, windows};
-pub use times::{Times, Window, WindowsError};
+pub use times::{Times, Window};

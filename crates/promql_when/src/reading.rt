@@ -1,16 +1,18 @@
 //! When each selector of a query reads: docs/reference/when.md, "Windows".
 
-ghost use Rattle.std.specs.Prelude.{◌≡◌, ◌≢◌, ◌++◌, ◌∷◌, [], false, true, if◌then◌else◌, IfErr, IfOk, OnOk, Some, option_map};
+ghost use Rattle.std.specs.Prelude.{◌≡◌, ◌++◌, ◌∷◌, [], if◌then◌else◌, IfErr, IfOk, OnOk, None, Some, option_map};
 ghost use Rattle.std.specs.Duration.{as_nanos};
 ghost use Rattle.promql_kind.specs.Functions.{signature_of};
 ghost use Rattle.promql_ast.specs.Shifts.{moment_of, shift_of};
 ghost use Rattle.promql_ast.specs.View.{aggregate_tree, binary_tree, call_tree, children_of, extension_tree, matrix_tree, option_tree, selector_of, subquery_tree, tree_of, trees_of, vector_tree};
+ghost use Rattle.promql_when.specs.Found.{IsErrorAt, found_of};
 ghost use Rattle.promql_when.specs.Reads as reads;
-ghost use Rattle.promql_when.specs.Reads.{all_fit};
-ghost use Rattle.promql_when.specs.Walked.{Walks, found_of};
+ghost use Rattle.promql_when.specs.Reads.{overflow};
+ghost use Rattle.promql_when.specs.Walked.{Walks};
 ghost use Rattle.promql_when.specs.Windows.{asked};
 
-use crate::times::{Times, Window, WindowsError};
+use crate::overflow::{TimedNode, WindowsError};
+use crate::times::{Times, Window};
 use crate::window::{matrix_window, narrowed, step_of, subquery_window, vector_window};
 use promql_ast::{
     AggregateExpr, BinaryExpr, Call, Expr, Extension, MatrixSelector, SubqueryExpr, VectorSelector,
@@ -31,35 +33,32 @@ pub struct SelectorWindow<'a> {
 ///
 /// # Errors
 ///
-/// `TimeOverflow` where 64 bits do not hold the window of a selector, or that in which a subquery is evaluated; `Memory` where an
-/// allocation failed.
+/// `TimeOverflow` where 64 bits do not hold the window of a selector, or that in which the times of a subquery lie, with the first such
+/// node; `Memory` where an allocation failed.
 pub fn windows<'a>(
     alloc: Global,
     expr: &'a Expr,
     times: &Times,
-) -> Result<Vec<SelectorWindow<'a>>, WindowsError>
+) -> Result<Vec<SelectorWindow<'a>>, WindowsError<'a>>
     ensures exact { IfOk result (λ ws. found_of ws.items
         ≡ reads.windows times.now (tree_of expr.now) (asked times.now)) }
-    ensures fits { OnOk result (all_fit times.now (tree_of expr.now) (asked times.now) ≡ true) }
-    ensures overflow { IfErr result (λ e. e ≢ WindowsError.Memory
-        → all_fit times.now (tree_of expr.now) (asked times.now) ≡ false) }
+    ensures fits { OnOk result (overflow times.now (tree_of expr.now) (asked times.now) ≡ None) }
+    ensures error { IfErr result (IsErrorAt (overflow times.now (tree_of expr.now) (asked times.now))) }
 {
     windows_within(alloc, expr, times, times.asked())
 }
 
 /// The same, of a query that is evaluated at all times of a window.
-#[tactic(auto, using(crate::proofs::Walking::only_overflow))]
 pub(crate) fn windows_within<'a>(
     alloc: Global,
     expr: &'a Expr,
     times: &Times,
     window: Option<Window>,
-) -> Result<Vec<SelectorWindow<'a>>, WindowsError>
+) -> Result<Vec<SelectorWindow<'a>>, WindowsError<'a>>
     ensures exact { IfOk result (λ ws. found_of ws.items
         ≡ reads.windows times.now (tree_of expr.now) window) }
-    ensures fits { OnOk result (all_fit times.now (tree_of expr.now) window ≡ true) }
-    ensures overflow { IfErr result (λ e. e ≢ WindowsError.Memory
-        → all_fit times.now (tree_of expr.now) window ≡ false) }
+    ensures fits { OnOk result (overflow times.now (tree_of expr.now) window ≡ None) }
+    ensures error { IfErr result (IsErrorAt (overflow times.now (tree_of expr.now) window)) }
 {
     let mut found: Vec<SelectorWindow<'a>> = Vec::new(alloc);
     match push_expr(times, expr, window, &mut found) {
@@ -76,9 +75,9 @@ fn push_expr<'a>(
     expr: &'a Expr,
     window: Option<Window>,
     found: &mut Vec<SelectorWindow<'a>>,
-) -> Result<(), WindowsError>
+) -> Result<(), WindowsError<'a>>
     ensures { Walks result (found_of found.old.items) (found_of found.new.items)
-        (reads.windows times.now (tree_of expr.now) window) (all_fit times.now (tree_of expr.now) window) }
+        (reads.windows times.now (tree_of expr.now) window) (overflow times.now (tree_of expr.now) window) }
 {
     match expr {
         Expr::Aggregate(e) => push_aggregate(times, e, window, found),
@@ -100,9 +99,9 @@ fn push_aggregate<'a>(
     node: &'a AggregateExpr,
     window: Option<Window>,
     found: &mut Vec<SelectorWindow<'a>>,
-) -> Result<(), WindowsError>
+) -> Result<(), WindowsError<'a>>
     ensures { Walks result (found_of found.old.items) (found_of found.new.items)
-        (reads.windows times.now (aggregate_tree node.now) window) (all_fit times.now (aggregate_tree node.now) window) }
+        (reads.windows times.now (aggregate_tree node.now) window) (overflow times.now (aggregate_tree node.now) window) }
 {
     match push_param(times, &node.param, window, found) {
         Ok(()) => push_expr(times, &node.expr, window, found),
@@ -116,9 +115,9 @@ fn push_param<'a>(
     param: &'a Option<Box<Expr>>,
     window: Option<Window>,
     found: &mut Vec<SelectorWindow<'a>>,
-) -> Result<(), WindowsError>
+) -> Result<(), WindowsError<'a>>
     ensures { Walks result (found_of found.old.items) (found_of found.new.items)
-        (reads.maybe_windows times.now (option_tree param.now) window) (reads.maybe_fit times.now (option_tree param.now) window) }
+        (reads.maybe_windows times.now (option_tree param.now) window) (reads.maybe_overflow times.now (option_tree param.now) window) }
 {
     match param {
         Some(param) => push_expr(times, param, window, found),
@@ -132,9 +131,9 @@ fn push_binary<'a>(
     node: &'a BinaryExpr,
     window: Option<Window>,
     found: &mut Vec<SelectorWindow<'a>>,
-) -> Result<(), WindowsError>
+) -> Result<(), WindowsError<'a>>
     ensures { Walks result (found_of found.old.items) (found_of found.new.items)
-        (reads.windows times.now (binary_tree node.now) window) (all_fit times.now (binary_tree node.now) window) }
+        (reads.windows times.now (binary_tree node.now) window) (overflow times.now (binary_tree node.now) window) }
 {
     match push_expr(times, &node.lhs, window, found) {
         Ok(()) => push_expr(times, &node.rhs, window, found),
@@ -143,22 +142,24 @@ fn push_binary<'a>(
 }
 
 /// The window in which the expression of a subquery is evaluated.
-fn inner_window(
+fn inner_window<'a>(
     times: &Times,
-    node: &SubqueryExpr,
+    node: &'a SubqueryExpr,
     window: Option<Window>,
-) -> Result<Option<Window>, WindowsError>
+) -> Result<Option<Window>, WindowsError<'a>>
     ensures inner { IfOk result (λ w. w ≡ reads.inner_window times.now (option_map shift_of node.now.offset)
         (option_map moment_of node.now.at) (as_nanos node.now.range) (option_map as_nanos node.now.step) window) }
-    ensures fits { OnOk result (reads.subquery_fits times.now (option_map shift_of node.now.offset)
-        (option_map moment_of node.now.at) (as_nanos node.now.range) window ≡ true) }
-    ensures overflow { IfErr result (λ e. reads.subquery_fits times.now (option_map shift_of node.now.offset)
-        (option_map moment_of node.now.at) (as_nanos node.now.range) window ≡ false) }
+    ensures fits { OnOk result (reads.subquery_overflow times.now (tree_of node.now.expr.value)
+        (option_map shift_of node.now.offset) (option_map moment_of node.now.at) (as_nanos node.now.range)
+        (option_map as_nanos node.now.step) window ≡ None) }
+    ensures error { IfErr result (IsErrorAt (reads.subquery_overflow times.now (tree_of node.now.expr.value)
+        (option_map shift_of node.now.offset) (option_map moment_of node.now.at) (as_nanos node.now.range)
+        (option_map as_nanos node.now.step) window)) }
 {
     match window {
         Some(window) => match subquery_window(times, node, window) {
-            Ok(whole) => Ok(narrowed(step_of(times, node.step), whole)),
-            Err(error) => Err(error),
+            Some(whole) => Ok(narrowed(step_of(times, node.step), whole)),
+            None => Err(WindowsError::TimeOverflow(TimedNode::Subquery(node))),
         },
         None => Ok(None),
     }
@@ -170,9 +171,9 @@ fn push_subquery<'a>(
     node: &'a SubqueryExpr,
     window: Option<Window>,
     found: &mut Vec<SelectorWindow<'a>>,
-) -> Result<(), WindowsError>
+) -> Result<(), WindowsError<'a>>
     ensures { Walks result (found_of found.old.items) (found_of found.new.items)
-        (reads.windows times.now (subquery_tree node.now) window) (all_fit times.now (subquery_tree node.now) window) }
+        (reads.windows times.now (subquery_tree node.now) window) (overflow times.now (subquery_tree node.now) window) }
 {
     match inner_window(times, node, window) {
         Ok(inner) => push_expr(times, &node.expr, inner, found),
@@ -186,12 +187,14 @@ fn push_vector<'a>(
     node: &'a VectorSelector,
     window: Option<Window>,
     found: &mut Vec<SelectorWindow<'a>>,
-) -> Result<(), WindowsError>
+) -> Result<(), WindowsError<'a>>
     ensures { Walks result (found_of found.old.items) (found_of found.new.items)
-        (reads.windows times.now (vector_tree node.now) window) (all_fit times.now (vector_tree node.now) window) }
+        (reads.windows times.now (vector_tree node.now) window) (overflow times.now (vector_tree node.now) window) }
 {
     let window = match window {
-        Some(window) => Some(vector_window(times, node.offset, node.at, window)?),
+        Some(window) => Some(vector_window(times, node.offset, node.at, window).ok_or(
+            WindowsError::TimeOverflow(TimedNode::Vector(node)),
+        )?),
         None => None,
     };
     let selector = Some(node);
@@ -205,12 +208,14 @@ fn push_matrix<'a>(
     node: &'a MatrixSelector,
     window: Option<Window>,
     found: &mut Vec<SelectorWindow<'a>>,
-) -> Result<(), WindowsError>
+) -> Result<(), WindowsError<'a>>
     ensures { Walks result (found_of found.old.items) (found_of found.new.items)
-        (reads.windows times.now (matrix_tree node.now) window) (all_fit times.now (matrix_tree node.now) window) }
+        (reads.windows times.now (matrix_tree node.now) window) (overflow times.now (matrix_tree node.now) window) }
 {
     let window = match window {
-        Some(window) => Some(matrix_window(times, node, window)?),
+        Some(window) => Some(matrix_window(times, node, window).ok_or(WindowsError::TimeOverflow(
+            TimedNode::Matrix(node),
+        ))?),
         None => None,
     };
     let selector = Some(&node.vs);
@@ -224,9 +229,9 @@ fn push_call<'a>(
     node: &'a Call,
     window: Option<Window>,
     found: &mut Vec<SelectorWindow<'a>>,
-) -> Result<(), WindowsError>
+) -> Result<(), WindowsError<'a>>
     ensures { Walks result (found_of found.old.items) (found_of found.new.items)
-        (reads.windows times.now (call_tree node.now) window) (all_fit times.now (call_tree node.now) window) }
+        (reads.windows times.now (call_tree node.now) window) (overflow times.now (call_tree node.now) window) }
 {
     match push_args(times, node.args.args.as_slice(), window, found) {
         Ok(()) => push_bare_info(times, node, window, found),
@@ -244,16 +249,18 @@ fn is_bare_info(node: &Call) -> bool
 /// Appends the window of `target_info`, where the call reads it.
 fn push_bare_info<'a>(
     times: &Times,
-    node: &Call,
+    node: &'a Call,
     window: Option<Window>,
     found: &mut Vec<SelectorWindow<'a>>,
-) -> Result<(), WindowsError>
+) -> Result<(), WindowsError<'a>>
     ensures { Walks result (found_of found.old.items) (found_of found.new.items)
-        (if reads.is_bare_info (signature_of node.now.func) (trees_of node.now.args.args.items) then reads.info_windows times.now window else [])
-        (if reads.is_bare_info (signature_of node.now.func) (trees_of node.now.args.args.items) then reads.info_fits times.now window else true) }
+        (if reads.is_bare_info (signature_of node.now.func) (trees_of node.now.args.args.items)
+        then reads.info_windows times.now window else [])
+        (if reads.is_bare_info (signature_of node.now.func) (trees_of node.now.args.args.items)
+        then reads.info_overflow times.now (signature_of node.now.func) (trees_of node.now.args.args.items) window else None) }
 {
     if is_bare_info(node) {
-        push_target_info(times, window, found)
+        push_target_info(times, node, window, found)
     } else {
         Ok(())
     }
@@ -262,14 +269,18 @@ fn push_bare_info<'a>(
 /// Appends the window of `target_info`.
 fn push_target_info<'a>(
     times: &Times,
+    node: &'a Call,
     window: Option<Window>,
     found: &mut Vec<SelectorWindow<'a>>,
-) -> Result<(), WindowsError>
+) -> Result<(), WindowsError<'a>>
     ensures { Walks result (found_of found.old.items) (found_of found.new.items)
-        (reads.info_windows times.now window) (reads.info_fits times.now window) }
+        (reads.info_windows times.now window)
+        (reads.info_overflow times.now (signature_of node.now.func) (trees_of node.now.args.args.items) window) }
 {
     let window = match window {
-        Some(window) => Some(vector_window(times, None, None, window)?),
+        Some(window) => Some(vector_window(times, None, None, window).ok_or(
+            WindowsError::TimeOverflow(TimedNode::Info(node)),
+        )?),
         None => None,
     };
     found.push(SelectorWindow {
@@ -285,9 +296,9 @@ fn push_args<'a>(
     args: &'a [Box<Expr>],
     window: Option<Window>,
     found: &mut Vec<SelectorWindow<'a>>,
-) -> Result<(), WindowsError>
+) -> Result<(), WindowsError<'a>>
     ensures { Walks result (found_of found.old.items) (found_of found.new.items)
-        (reads.all_windows times.now (trees_of args.now) window) (reads.each_fits times.now (trees_of args.now) window) }
+        (reads.all_windows times.now (trees_of args.now) window) (reads.any_overflow times.now (trees_of args.now) window) }
 {
     for arg in args {
         match push_expr(times, arg, window, found) {
@@ -304,9 +315,9 @@ fn push_children<'a>(
     children: &'a [Expr],
     window: Option<Window>,
     found: &mut Vec<SelectorWindow<'a>>,
-) -> Result<(), WindowsError>
+) -> Result<(), WindowsError<'a>>
     ensures { Walks result (found_of found.old.items) (found_of found.new.items)
-        (reads.all_windows times.now (children_of children.now) window) (reads.each_fits times.now (children_of children.now) window) }
+        (reads.all_windows times.now (children_of children.now) window) (reads.any_overflow times.now (children_of children.now) window) }
 {
     for child in children {
         match push_expr(times, child, window, found) {

@@ -1,8 +1,5 @@
 //! The times of a query, and windows of samples: docs/reference/when.md, "Times" and "Windows".
 
-use std::alloc::{AllocError, AllocFailed};
-use thiserror::Error;
-
 /// The times at which a query is evaluated, and how far an engine looks back. All are in milliseconds, since the epoch where they are
 /// moments.
 #[derive(Clone, Copy, Debug, PartialEq, Eq)]
@@ -28,37 +25,4 @@ pub struct Window {
     pub first: i64,
     /// The last millisecond.
     pub last: i64,
-}
-
-/// Why a query has no windows.
-#[derive(Debug, Drop, PartialEq, Eq, Error)]
-pub enum WindowsError {
-    /// 64 bits do not hold the window of a selector, or that in which a subquery is evaluated.
-    #[error("a time of the query is below -2^63 or above 2^63 - 1 milliseconds")]
-    TimeOverflow,
-    /// An allocation failed.
-    #[error("out of memory")]
-    Memory,
-}
-
-impl From<AllocError> for WindowsError {
-    ghost use Rattle.std.specs.Prelude.{◌≡◌};
-    ghost use Rattle.promql_when.specs.declared.times.WindowsError.TheVariants.{Memory};
-
-    ghost from_gives = { λ _ e. e ≡ Memory };
-
-    fn from(_e: AllocError) -> WindowsError {
-        WindowsError::Memory
-    }
-}
-
-impl<T: Drop> From<AllocFailed<T>> for WindowsError {
-    ghost use Rattle.std.specs.Prelude.{◌≡◌};
-    ghost use Rattle.promql_when.specs.declared.times.WindowsError.TheVariants.{Memory};
-
-    ghost from_gives = { λ _ e. e ≡ Memory };
-
-    fn from(_e: AllocFailed<T>) -> WindowsError {
-        WindowsError::Memory
-    }
 }

@@ -8,7 +8,7 @@ ghost use Rattle.promql_ast.specs.Shifts.{moment_of, shift_of};
 ghost use Rattle.promql_when.specs.Walked.{Fits};
 ghost use Rattle.promql_when.specs.Windows as spec;
 
-use crate::times::{Times, Window, WindowsError};
+use crate::times::{Times, Window};
 use promql_ast::{AtModifier, MatrixSelector, Offset, RangeMode, SubqueryExpr};
 use std::time::Duration;
 
@@ -102,16 +102,16 @@ fn base(times: &Times, offset: Option<Offset>, at: Option<AtModifier>, time: i64
     shifted(offset, moment(times, at, time))
 }
 
-/// The window between these times.
-fn fitting(first: i128, last: i128) -> Result<Window, WindowsError>
+/// The window between these times; None where 64 bits do not hold them.
+fn fitting(first: i128, last: i128) -> Option<Window>
     ensures { Fits result (record { first = first; last = last }) }
 {
     let least = i64::MIN as i128;
     let most = i64::MAX as i128;
     if first < least || most < first || last < least || most < last {
-        return Err(WindowsError::TimeOverflow);
+        return None;
     }
-    Ok(Window {
+    Some(Window {
         first: first as i64,
         last: last as i64,
     })
@@ -175,7 +175,7 @@ fn around(
     at: Option<AtModifier>,
     lengths: Lengths,
     window: Window,
-) -> Result<Window, WindowsError>
+) -> Option<Window>
     requires { lengths.before < 2 ^ 81 }
     ensures { Fits result (spec.around times.now (option_map shift_of offset) (option_map moment_of at)
         lengths.before lengths.after window) }
@@ -194,7 +194,7 @@ fn fitting_around(
     window: Window,
     first: i128,
     last: i128,
-) -> Result<Window, WindowsError>
+) -> Option<Window>
     requires first { first ≡ (spec.base times.now (option_map shift_of offset) (option_map moment_of at) window.first -ℤ pos lengths.before)
         +ℤ pos (spec.opening times.now) }
     requires last { last ≡ spec.base times.now (option_map shift_of offset) (option_map moment_of at) window.last +ℤ pos lengths.after }
@@ -210,7 +210,7 @@ pub(crate) fn vector_window(
     offset: Option<Offset>,
     at: Option<AtModifier>,
     window: Window,
-) -> Result<Window, WindowsError>
+) -> Option<Window>
     ensures { Fits result (spec.vector_window times.now (option_map shift_of offset) (option_map moment_of at) window) }
 {
     let before = u128::from(times.lookback);
@@ -230,11 +230,7 @@ fn beyond(times: &Times, mode: RangeMode) -> (u64, u64)
 }
 
 /// The samples of a matrix selector.
-pub(crate) fn matrix_window(
-    times: &Times,
-    node: &MatrixSelector,
-    window: Window,
-) -> Result<Window, WindowsError>
+pub(crate) fn matrix_window(times: &Times, node: &MatrixSelector, window: Window) -> Option<Window>
     ensures { Fits result (spec.matrix_window times.now (option_map shift_of node.now.vs.offset)
         (option_map moment_of node.now.vs.at) (as_nanos node.now.range) node.now.mode window) }
 {
@@ -250,11 +246,7 @@ pub(crate) fn matrix_window(
 }
 
 /// Where the times of a subquery lie.
-pub(crate) fn subquery_window(
-    times: &Times,
-    node: &SubqueryExpr,
-    window: Window,
-) -> Result<Window, WindowsError>
+pub(crate) fn subquery_window(times: &Times, node: &SubqueryExpr, window: Window) -> Option<Window>
     ensures { Fits result (spec.subquery_window times.now (option_map shift_of node.now.offset)
         (option_map moment_of node.now.at) (as_nanos node.now.range) window) }
 {

@@ -1,5 +1,5 @@
 use Rattle.promql_when.specs.Last.{last_of}
-use Rattle.promql_when.specs.Walked.{found_of}
+use Rattle.promql_when.specs.Found.{found_of}
 use Rattle.promql_when.proofs.LaterTimes.{last_later, one_later}
 use Rattle.promql_when.proofs.last.last_of.Goals as goal
 
