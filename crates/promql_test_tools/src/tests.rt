@@ -1,11 +1,13 @@
-//! The calls of `promql_rewrite`, `promql_formatter` and `promql_places`, and differences and refusals of targets. What a test says of a row is said by the calls below: they
-//! are proved once, and a test that only calls them is proved fast. Where the rows of a long table are lines, it is one text.
+//! The calls of `promql_rewrite`, `promql_formatter`, `promql_places` and `promql_when`, and differences and refusals of targets. What a test
+//! says of a row is said by the calls below: they are proved once, and a test that only calls them is proved fast. Where the rows of a long
+//! table are lines, it is one text.
 
 mod differing;
 mod formatting;
 mod placing;
 mod refusing;
 mod rewriting;
+mod timing;
 
 use promql_ast::CheckError;
 use promql_rewrite::NotFaithful;

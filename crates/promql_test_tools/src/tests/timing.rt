@@ -48,12 +48,13 @@ info(a offset 1m) => 640000..1340000, 700000..1400000 of target_info
 info(a, {b=\"c\"}) => 700000..1400000, 700000..1400000
 1 + time() => 
 a @ 9223372036854775.807 => 9223372036854475807..9223372036854775807
-a @ 9223372036854775.807 offset -1ms => overflow
-a @ -9223372036854775.808 => overflow
+a @ 9223372036854775.807 offset -1ms => overflow at a @ 9223372036854775.807 offset -1ms
+a @ -9223372036854775.808 => overflow at a @ -9223372036854775.808
+b + a @ -9223372036854775.808 + c @ 9223372036854775.807 offset -1ms => overflow at a @ -9223372036854775.808
 a[1ms] @ -9223372036854775.807 => -9223372036854775808..-9223372036854775807
-max_over_time((a @ 0)[1ms:1h] @ -9223372036854775.808) => overflow
+max_over_time((a @ 0)[1ms:1h] @ -9223372036854775.808) => overflow at (a @ 0.000)[1ms:1h] @ -9223372036854775.808
 a + b[106751991168d] => error
-rate(b[106751991168d]) => overflow";
+rate(b[106751991168d]) => overflow at b[106751991168d]";
 
 /// The same, where windows are open on the left.
 const LEFT_OPEN: &str = "a => 700001..1400000
@@ -74,6 +75,9 @@ range() => it is not pinned
 sum(vector(1 + end())) => it is not pinned
 start + time() => start + time()";
 
+/// What is written of a query that is not pinned.
+const NOT_PINNED: &str = "it is not pinned";
+
 /// Queries, the last millisecond that they read at 1,000 seconds, and whether they are constant.
 const LAST: &str = "a => 1000000 no
 a offset 1m => 940000 no
@@ -89,7 +93,7 @@ a @ 5 + 1 => 5000 yes
 sum(rate(a[5m] @ 5)) => 5000 yes
 -(a @ 5) and timestamp(a @ 5) => 5000 no
 time() => none no
-max_over_time(time()[5m:] @ 5) => none yes
+max_over_time(vector(time())[5m:] @ 5) => none yes
 topk(scalar(b), a @ 5) => 1000000 no
 vector(step()) => none no";
 
@@ -113,31 +117,56 @@ fn shown_windows(alloc: Global, found: &[SelectorWindow<'_>]) -> Result<String, 
     Ok(text)
 }
 
-/// The windows of a query, or why it has none.
-fn windows_text(alloc: Global, query: &str, times: &Times) -> Result<String, Failed> {
-    let Ok(expr) = parse(alloc, query) else {
-        return Ok(String::from_str(alloc, "error")?);
-    };
-    match windows(alloc, &expr, times) {
+/// The tree of a query.
+fn read(alloc: Global, query: &str) -> Result<Box<Expr>, Failed> {
+    Ok(Box::new(alloc, parse(alloc, query)?)?)
+}
+
+/// The windows, or the node whose window does not fit.
+fn found_text(
+    alloc: Global,
+    found: Result<Vec<SelectorWindow<'_>>, WindowsError<'_>>,
+) -> Result<String, Failed> {
+    match found {
         Ok(found) => shown_windows(alloc, found.as_slice()),
-        Err(WindowsError::TimeOverflow) => Ok(String::from_str(alloc, "overflow")?),
+        Err(WindowsError::TimeOverflow(node)) => Ok(format!(in alloc; "overflow at {node}")?),
         Err(WindowsError::Memory) => Err(Failed),
     }
 }
 
+/// The windows of a query, or why it has none.
+fn windows_text(alloc: Global, query: &str, times: &Times) -> Result<String, Failed> {
+    match read(alloc, query) {
+        Ok(expr) => found_text(alloc, windows(alloc, &expr, times)),
+        Err(_) => Ok(String::from_str(alloc, "error")?),
+    }
+}
+
+/// The text of a tree.
+fn text_of(alloc: Global, expr: Expr) -> Result<String, Failed> {
+    let text = expr.to_string(alloc);
+    drop(expr);
+    Ok(text?)
+}
+
+/// The text of the query's tree.
+fn printed(alloc: Global, query: &str) -> Result<String, Failed> {
+    Ok(read(alloc, query)?.to_string(alloc)?)
+}
+
 /// The query with the times in it, or that it is not pinned.
 fn pinned_text(alloc: Global, query: &str) -> Result<String, Failed> {
-    let expr = parse(alloc, query)?;
+    let expr = read(alloc, query)?;
     match pinned(alloc, &expr, TIMES.start, TIMES.end) {
-        Ok(pinned) => Ok(pinned.to_string(alloc)?),
-        Err(PinError::GridFunction) => Ok(String::from_str(alloc, "it is not pinned")?),
+        Ok(pinned) => text_of(alloc, pinned),
+        Err(PinError::GridFunction) => Ok(String::from_str(alloc, NOT_PINNED)?),
         Err(PinError::Memory) => Err(Failed),
     }
 }
 
 /// The last millisecond that a query reads, and whether it is constant.
 fn last_text(alloc: Global, query: &str) -> Result<String, Failed> {
-    let expr = parse(alloc, query)?;
+    let expr = read(alloc, query)?;
     let constant = if is_constant(&expr) { "yes" } else { "no" };
     match last_read(alloc, &expr, TIMES.start, &TIMES) {
         Ok(Some(last)) => Ok(format!(in alloc; "{last} {constant}")?),
@@ -157,7 +186,7 @@ fn long_sum(alloc: Global, term: &str) -> Result<String, Failed> {
 
 /// How many windows a long sum has, if they are one.
 fn long_windows(alloc: Global) -> Result<bool, Failed> {
-    let expr = parse(alloc, long_sum(alloc, "a")?.as_str())?;
+    let expr = read(alloc, long_sum(alloc, "a")?.as_str())?;
     let Ok(found) = windows(alloc, &expr, &TIMES) else {
         return Err(Failed);
     };
@@ -212,6 +241,28 @@ fn times_are_few(rt: HostRuntime) {
         windows_text(rt.alloc(), "a", &all),
         "-9223372036854775808..9223372036854775807",
     );
+    let early = Times {
+        start: i64::MIN,
+        end: i64::MIN,
+        ..TIMES
+    };
+    let want = "overflow at info(a @ 0.000)";
+    prints(&rt, windows_text(rt.alloc(), "info(a @ 0)", &early), want);
+}
+
+/// The message of a query without windows.
+fn message(alloc: Global, query: &str) -> Result<String, Failed> {
+    let expr = read(alloc, query)?;
+    match windows(alloc, &expr, &TIMES) {
+        Ok(_) => Err(Failed),
+        Err(error) => Ok(error.to_string(alloc)?),
+    }
+}
+
+#[test]
+fn errors_show_their_node(rt: HostRuntime) {
+    let want = "a time of `b[106751991168d]` is below -2^63 or above 2^63 - 1 milliseconds";
+    prints(&rt, message(rt.alloc(), "rate(b[106751991168d])"), want);
 }
 
 #[test]
@@ -219,6 +270,9 @@ fn queries_are_pinned(rt: HostRuntime) {
     for row in PINNED.split('\n') {
         let (query, want) = columns(row);
         prints(&rt, pinned_text(rt.alloc(), query), want);
+        if want != NOT_PINNED {
+            prints(&rt, printed(rt.alloc(), want), want);
+        }
     }
     match long_sum(rt.alloc(), "a @ 1500.000") {
         Ok(want) => prints(&rt, long_pinned(rt.alloc()), want.as_str()),
