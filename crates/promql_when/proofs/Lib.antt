@@ -10,4 +10,5 @@ pub mod PinnedTypes
 pub mod ReachedEnds
 pub mod TreeLists
 pub mod Walking
+pub mod WithinReach
 pub mod WithinWindows

@@ -8,7 +8,6 @@ use Rattle.promql_when.specs.Reads.{earlier}
 use Rattle.promql_when.specs.Walked.{Walks}
 use Rattle.promql_when.specs.declared.overflow.WindowsError.{WindowsError}
 use Rattle.promql_when.specs.declared.overflow.WindowsError.TheVariants.{Memory, TimeOverflow}
-use Rattle.promql_when.specs.declared.times.Window.{Window}
 
 -- an error of the first of two parts is one of both
 first_error : (e : WindowsError) (f g : Option Tree) → IsErrorAt f e → IsErrorAt (earlier f g) e
@@ -68,7 +67,7 @@ module _ {A : Type 0} where
   walked_as F G x y r a b same walked = subst (λ z. Walks r a b (F z) (G z)) same walked
 
   -- after a window that fits
-  pub inner_walked : (F : Option Window → List A) (G : Option Window → Option Tree) (i j : Option Window) (r : Result (Unit {0}) WindowsError) (a b : List A)
+  pub inner_walked : {B : Type 0} (F : B → List A) (G : B → Option Tree) (i j : B) (r : Result (Unit {0}) WindowsError) (a b : List A)
       (f : Option Tree) → i ≡ j → f ≡ None → Walks r a b (F i) (G i) → Walks r a b (F j) (earlier f (G j))
   inner_walked F G i j (Ok x) a b f same fit walked =
       let more = walked_as F G i j (Ok x) a b same walked in (more.0, ap (λ f. earlier f (G j)) fit ∙ more.1)

@@ -2,6 +2,8 @@ pub mod Ends
 pub mod Found
 pub mod Last
 pub mod Pinned
+pub mod Reached
+pub mod ReachFound
 pub mod Reads
 pub mod Walked
 pub mod Windows

@@ -10,6 +10,7 @@ ghost use Rattle.promql_when.specs.Ends as ends;
 ghost use Rattle.promql_when.specs.Ends.{all_evaluated, first_of, has_read_to, has_window_to};
 ghost use Rattle.promql_when.specs.Last.{is_constant, last_of};
 ghost use Rattle.promql_when.specs.Pinned.{over, pinned, pinned_selector};
+ghost use Rattle.promql_when.specs.Reached.{evaluation, is_reached, reach};
 ghost use Rattle.promql_when.specs.Reads.{is_read, lies_within, reads, windows};
 ghost use Rattle.promql_when.specs.Windows.{IsAsked, asked, instant};
 ghost use Rattle.promql_when.specs.declared.times.Times.{Times};
@@ -56,4 +57,11 @@ pub fn ends_are_reached()
 pub fn pinned_queries_are_typed()
     ensures types { (start end : ℤ) (t : Tree) → type_of (pinned start end t) ≡ type_of t }
     ensures typed { (start end : ℤ) (t : Tree) → Typed t → Typed (pinned start end t) }
+{}
+
+/// What is read at a time lies within reach of it: a sample that is read of a selector lies within the reach of that selector, moved to the
+/// time unless it is fixed.
+pub fn reads_lie_within_reach()
+    ensures { (ts : Times) (t : Tree) (x sample : ℤ) (is_one : Selector → Bool) → is_read is_one sample (reads ts t x) ≡ true
+        → is_reached is_one x sample (reach ts t evaluation) ≡ true }
 {}

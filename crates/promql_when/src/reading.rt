@@ -240,7 +240,7 @@ fn push_call<'a>(
 }
 
 /// Whether the call is one of `info` without a second argument.
-fn is_bare_info(node: &Call) -> bool
+pub(crate) fn is_bare_info(node: &Call) -> bool
     ensures { result ≡ reads.is_bare_info (signature_of node.now.func) (trees_of node.now.args.args.items) }
 {
     node.func.name == "info" && node.args.len() <= 1

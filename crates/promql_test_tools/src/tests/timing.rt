@@ -4,7 +4,8 @@ use super::{Failed, columns, holds, is_so, prints};
 use promql_ast::Expr;
 use promql_syntax::parser::parse;
 use promql_when::{
-    PinError, SelectorWindow, Times, WindowsError, is_constant, last_read, pinned, windows,
+    PinError, SelectorReach, SelectorWindow, Times, WindowsError, is_constant, last_read, pinned,
+    reaches, windows,
 };
 use std::alloc::Global;
 
@@ -64,6 +65,23 @@ a[5m:1m] => 420001..1380000
 a[5m:100s] => 500001..1400000
 rate(a[5m] anchored) => 400001..1400000
 info(a) => 700001..1400000, 700001..1400000 of target_info";
+
+/// Queries, and how far from the time of evaluation their selectors read.
+const REACHES: &str = "a => -300000..0
+a offset 5m => -600000..-300000
+a[1m] offset -5m => 240000..300000
+rate(a[5m] smoothed) => -600000..300000
+a @ 100 => -200000..100000 fixed
+a @ end() offset 1m => 1140000..1440000 fixed
+max_over_time(rate(a[1m])[5m:1m] offset 1m) => -420000..-60000
+max_over_time(a[5m:1h]) => -600000..0
+max_over_time((a @ 5)[5m:1m]) + b => -295000..5000 fixed, -300000..0
+max_over_time(a[5m:1m] @ 7) => -593000..7000 fixed
+max_over_time((a + b @ 9)[5m:1m] @ 7) => -593000..7000 fixed, -291000..9000 fixed
+topk(scalar(b offset 1m), a) => -360000..-60000, -300000..0
+info(a offset 1m) => -360000..-60000, -300000..0 of target_info
+1 + time() => 
+a + b @ -9223372036854775.808 => overflow at b @ -9223372036854775.808";
 
 /// Queries, and these with the times in them.
 const PINNED: &str = "a @ start() + rate(b[5m] @ end()) => a @ 1000.000 + rate(b[5m] @ 1500.000)
@@ -142,6 +160,35 @@ fn windows_text(alloc: Global, query: &str, times: &Times) -> Result<String, Fai
     }
 }
 
+/// The reaches, one after the other.
+fn shown_reaches(alloc: Global, found: &[SelectorReach<'_>]) -> Result<String, Failed> {
+    let mut text = String::new(alloc);
+    for it in found {
+        if !text.is_empty() {
+            text.push_str(", ")?;
+        }
+        let window = it.reach.window;
+        text.push_str(format!(in alloc; "{}..{}", window.first, window.last)?.as_str())?;
+        if it.reach.is_fixed {
+            text.push_str(" fixed")?;
+        }
+        if it.selector.is_none() {
+            text.push_str(" of target_info")?;
+        }
+    }
+    Ok(text)
+}
+
+/// The reaches of a query, or the node whose reach does not fit.
+fn reaches_text(alloc: Global, query: &str) -> Result<String, Failed> {
+    let expr = read(alloc, query)?;
+    match reaches(alloc, &expr, &TIMES) {
+        Ok(found) => shown_reaches(alloc, found.as_slice()),
+        Err(WindowsError::TimeOverflow(node)) => Ok(format!(in alloc; "overflow at {node}")?),
+        Err(WindowsError::Memory) => Err(Failed),
+    }
+}
+
 /// The text of a tree.
 fn text_of(alloc: Global, expr: Expr) -> Result<String, Failed> {
     let text = expr.to_string(alloc);
@@ -213,6 +260,14 @@ fn windows_are_found(rt: HostRuntime) {
         prints(&rt, windows_text(rt.alloc(), query, &left_open), want);
     }
     is_so(&rt, long_windows(rt.alloc()), "a long sum");
+}
+
+#[test]
+fn reaches_are_found(rt: HostRuntime) {
+    for row in REACHES.split('\n') {
+        let (query, want) = columns(row);
+        prints(&rt, reaches_text(rt.alloc(), query), want);
+    }
 }
 
 #[test]
