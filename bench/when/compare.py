@@ -27,7 +27,8 @@ BEGIN, STEP, SAMPLES = 1_700_000_000, 20, 540
 END = BEGIN + STEP * SAMPLES
 # Each selector has a metric of its own, so its names in the text are the selectors in their order.
 NAME = re.compile(r"m[0-9]+_[0-9]+")
-# Prometheus 2.42 leaves out the offset of a selector with `@` in `timestamp`.
+# Prometheus 2.42 leaves out the offset of a selector with `@` in `timestamp`, and over a range `predict_linear` moves what has an `@` with
+# the time of evaluation.
 TIMES = r"(?: (?:@ (?:start\(\)|end\(\)|[0-9.]+)|offset -?[0-9a-z]+))*"
 TIMESTAMP = re.compile(r"timestamp\(\(*m[0-9_]+(?:\{[^}]*\})?(" + TIMES + ")")
 
@@ -83,7 +84,7 @@ class Maker(meaning.Maker):
 
     def asked(self) -> Asked:
         query = self.instant(3)
-        while any("@" in times and "offset" in times for times in TIMESTAMP.findall(query)):
+        while is_at_fault(query):
             query = self.instant(3)
         self.queries += 1
         names = NAME.findall(query)
@@ -94,16 +95,23 @@ class Maker(meaning.Maker):
         return Asked(query, start, start + self.rng.randrange(0, 1_800_000), step, names)
 
 
+def is_at_fault(query: str) -> bool:
+    """Whether Prometheus 2.42 may have a wrong answer."""
+    if "predict_linear" in query and "@" in query:
+        return True
+    return any("@" in times and "offset" in times for times in TIMESTAMP.findall(query))
+
+
 # ---- what is told
 
 
-def told(program: List[str], queries: List[Asked]) -> Iterator[Told]:
-    """What the program tells of each query: bench/when/windows.rt.txt."""
+def told(program: List[str], queries: List[Asked]) -> Iterator[Optional[Told]]:
+    """What the program tells of each query: bench/when/windows.rt.txt. Nothing of one that the rules do not accept."""
     lines = "".join(f"{it.start}\t{it.end}\t{it.step}\t{it.query}\n" for it in queries)
     done = subprocess.run(program, input=lines, capture_output=True, text=True, check=True)
     for line in done.stdout.splitlines():
         windows, pinned, last = line.split("\t")
-        yield Told([window(it) for it in windows.split()], pinned, int(last) if last else None)
+        yield None if windows == "?" else Told([window(it) for it in windows.split()], pinned, int(last) if last else None)
 
 
 def window(text: str) -> Optional[Tuple[int, int]]:
@@ -215,9 +223,11 @@ def main() -> int:
     queries = [maker.asked() for _ in range(arguments.count)]
     answers = list(told([arguments.program], queries))
     counts: Counter[str] = collections.Counter()
+    counts["not accepted here"] = sum(it is None for it in answers)
+    asked_and_told = [(asked, answer) for asked, answer in zip(queries, answers) if answer]
     failed: List[Tuple] = []
     whole, cut = [], []
-    for asked, answer in zip(queries, answers):
+    for asked, answer in asked_and_told:
         if len(asked.names) != len(answer.windows):
             raise SystemExit(f"{asked.query}: {len(answer.windows)} windows")
         for name, span in zip(asked.names, answer.windows):
@@ -231,7 +241,7 @@ def main() -> int:
         for name, store in (("whole", whole), ("cut", cut)):
             servers.append(meaning.Prometheus(pathlib.Path(folder, name), store))
             stack.callback(servers[-1].end)
-        for asked, answer in zip(queries, answers):
+        for asked, answer in asked_and_told:
             compare(servers, asked, answer, counts, failed)
     print(", ".join(f"{key} {value}" for key, value in counts.items()))
     for law, asked, answer, everything, found in failed:
