@@ -332,7 +332,8 @@ unit_tests() {
     skipped=$(sed -n '$s/.*skipped=\([0-9]*\).*/\1/p' <<<"$said")
     # (as valgrind ends it, which found an error)
     if [ "$status" != 0 ] && [ "$lost" = 0 ]; then lost=1; fi
-    print_counts "$((${ran:-0} - lost - ${skipped:-0}))" "$lost" && [ "${ran:-0}" -gt 0 ]
+    # (where all are skipped, nothing was tried)
+    print_counts "$((${ran:-0} - lost - ${skipped:-0}))" "$lost" && [ "${ran:-0}" -gt "${skipped:-0}" ]
 }
 
 # add_unit_tests NAME FOLDER: adds all tests of the package in this folder, in runs that each end in time.

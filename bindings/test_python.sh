@@ -43,12 +43,13 @@ pythons() {
 # The extension that is built here is that of dist/, for each processor that there is a compiler for, if both are made with the same tools of
 # the same sources.
 extension_agrees() {
-    local processor
+    local processor built
     for processor in $(processor_names); do
         compiler_for "$processor" >/dev/null || continue
-        mkdir -p "$work/extension" && "$root/bin/link_extension" "$processor" "$work/extension" || return
+        built=$work/extension/$processor
+        mkdir -p "$built" && "$root/bin/link_extension" "$processor" "$built" || return
         [ "$(extension_tools)" != "$(sed -n 2p "$dist/_native.made_from")" ] || [ -n "$(why_extension_stale "$processor")" ] ||
-            cmp "$work/extension/_native.abi3.so" "$dist/$processor/_native.abi3.so" || return
+            cmp "$built/_native.abi3.so" "$dist/$processor/_native.abi3.so" || return
     done
 }
 
@@ -86,7 +87,7 @@ test_extension() {
     write_python "$work/python_valgrind" "valgrind --quiet --undef-value-errors=no --error-exitcode=99"
     python=$work/python_valgrind PROMQL_BROKEN=500 \
         add 'the extension for Python under valgrind' unit_tests "$here/python" test_calls.py -k Same -k Many -k Memory
-    python=$work/python_valgrind PROMQL_CHANGED=50 PROMQL_EXTENSION=$work/extension/_native.abi3.so \
+    python=$work/python_valgrind PROMQL_CHANGED=50 PROMQL_EXTENSION=$work/extension/$(uname -m)/_native.abi3.so \
         add 'nodes of the extension for Python under valgrind' unit_tests "$here/python" test_node_calls.py -k changed -k queries -k no_nodes -k learn
 }
 
