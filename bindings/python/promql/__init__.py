@@ -81,8 +81,6 @@ def __dir__() -> List[str]:
     return [*__all__, "__version__"]
 
 
-# Of these errors the library has more to say than each call does.
-_EXPLAINED = ("invalid promql query", "expression nested too deeply")
 _MAX_LEVEL = 512
 _MAX_WIDTH = 2**64 - 1
 _MAX_LIMIT = 2**64 - 1
@@ -172,8 +170,8 @@ class QueryError(Error):
 
     @property
     def message(self) -> str:
-        """What is wrong. At a syntax error it says what was found and what was expected, and what may be meant; of more than 512 levels it
-        says what to do about them."""
+        """What is wrong. At a syntax error it says what was found and what was expected, and what may be meant; of more than 512 levels, and
+        of some queries that Prometheus takes, it says what to write."""
         return self._explanation.message
 
     @property
@@ -188,8 +186,6 @@ class QueryError(Error):
 
     @cached_property
     def _explanation(self) -> _Explanation:
-        if self.reason not in _EXPLAINED:
-            return _Explanation(self.reason)
         answer = _caller.explain(self.query)
         told = json.loads(answer) if isinstance(answer, str) and answer else {}
         # (the limits may be others now, and the stack smaller)

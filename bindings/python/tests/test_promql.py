@@ -504,6 +504,17 @@ class Errors(unittest.TestCase):
         self.assertEqual((error.expected, error.found, error.reason), ((), None, "expression nested too deeply"))
         self.assertEqual(error.message, "more than 512 levels: put parts of a long chain in parentheses, or split the query")
 
+    def test_what_prometheus_takes(self):
+        for query, message in (
+            ("a[5m# b\n]", "unexpected character inside brackets: '#'; Prometheus takes a comment there: write it after the bracket"),
+            ("a @ start()[5m]", "no @ modifiers allowed before range; Prometheus takes it: write the range first"),
+            ("1" * 39, "more than 38 significant digits; Prometheus rounds it to a floating-point number"),
+        ):
+            with self.assertRaises(promql.QueryError) as raised:
+                promql.check(query)
+            self.assertEqual((raised.exception.message, raised.exception.expected), (message, ()))
+            self.assertTrue(message.startswith(raised.exception.reason))
+
     def test_nothing_expected(self):
         """At an error that is no syntax error."""
         for query, message in (
