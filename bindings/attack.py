@@ -240,9 +240,14 @@ def attack_by_patterns():
 TREES = """
 import sys, time, promql, promql.tree as tree
 form, count, said, longest = sys.stdin.read(), int(sys.argv[1]), [], 0.0
+def text():
+    answer = promql._caller.print_tree(form, 0, 0, 0, 0)
+    if isinstance(answer, str):
+        return answer
+    raise promql._tree_error(answer)
 def node():
     return str(tree.Selector("a", (tree.Matcher("b", "=~", r"\\w{720}"),) * count))
-for call in (lambda: promql._tree_text(promql._caller.print_tree(form, 0, 0, 0, 0)), node):
+for call in text, node:
     begun = time.process_time()
     try:
         said.append(call())
