@@ -146,6 +146,7 @@ impl Limits {
     }
 
     /// What the target reads otherwise at a token, which has one of the id `before` before it and `rest` after it.
+    #[inline(always)]
     #[tactic(auto, using(crate::proofs::FoundKinds::none_for_rules))]
     pub(crate) fn difference_kind(
         &self,
@@ -207,6 +208,7 @@ fn difference_of(text: &str, token: Option<Lexeme>, kind: DifferenceKind) -> Opt
 }
 
 /// What is read otherwise at a token, which has one of the id `before` before it and `rest` after it.
+#[inline(always)]
 fn kind_at(
     alloc: Global,
     before: TokenId,

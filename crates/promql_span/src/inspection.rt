@@ -1,6 +1,6 @@
 //! A pass over the tokens of a query: what its patterns measure, and the first part that its target reads otherwise.
 
-ghost use Rattle.std.specs.Prelude.{◌≡◌, ◌≤◌, ◌==◌, ◌||◌, ◌∷◌, [], IfOk, length, MatchOption, option_map};
+ghost use Rattle.std.specs.Prelude.{◌≡◌, ◌≤◌, ◌==◌, ◌||◌, ◌∷◌, [], IfOk, length, MatchOption, OnOk, option_map};
 ghost use Rattle.std.specs.Option.{option_or};
 ghost use Rattle.promql_text.specs.Texts.{Text};
 ghost use Rattle.promql_token.specs.Cursor.{tokens_left, tokens_up_to_fault};
@@ -45,36 +45,36 @@ impl Inspection {
         }
     }
 
-    /// The same with one more token of the query, which has `rest` after it.
+    /// Goes past one more token of the query, which has `rest` after it.
     ///
     /// # Errors
     ///
     /// `AllocError` where an allocation failed.
-    pub fn with_token(
-        self,
+    #[inline(always)]
+    pub fn pass(
+        &mut self,
         alloc: Global,
         limits: &Limits,
         query: &str,
         token: (TokenId, &str),
         rest: Cursor<'_>,
-    ) -> Result<Inspection, AllocError>
-        requires { IsInspected limits.now query.now ((token.0, token.1.now) ∷ tokens_left rest) self }
-        ensures { IfOk result (IsInspected limits.now query.now (tokens_left rest.entry)) }
+    ) -> Result<(), AllocError>
+        requires { IsInspected limits.now query.now ((token.0, token.1.now) ∷ tokens_left rest) self.old }
+        ensures { OnOk result (IsInspected limits.now query.now (tokens_left rest.entry) self.new) }
     {
         let (id, text) = token;
-        let otherwise = self.otherwise_with(alloc, limits, token, rest)?;
+        self.otherwise = self.otherwise_with(alloc, limits, token, rest)?;
         let measure = token_measure(alloc, self.after_operator, id, text)?;
-        let most = limits.max_pattern_size;
-        Ok(Inspection {
-            measured: self.measured.with_token(query, most, self.index, measure),
-            after_operator: is_pattern_operator(id),
-            before: stands_for(self.before, id),
-            otherwise,
-            index: self.index + 1,
-        })
+        self.measured
+            .add(query, limits.max_pattern_size, self.index, measure);
+        self.after_operator = is_pattern_operator(id);
+        self.before = stands_for(self.before, id);
+        self.index += 1;
+        Ok(())
     }
 
     /// The first part that is read otherwise, where there is one more token.
+    #[inline(always)]
     fn otherwise_with(
         &self,
         alloc: Global,
@@ -113,6 +113,7 @@ impl Inspection {
 }
 
 /// Whether a pattern comes after this token.
+#[inline(always)]
 fn is_pattern_operator(id: TokenId) -> bool
     ensures { result ≡ (id == T_EQL_REGEX || id == T_NEQ_REGEX) }
 {
@@ -134,7 +135,7 @@ pub(crate) fn inspect_tokens(
     let mut tokens = Cursor::new(query);
     let mut inspection = Inspection::new();
     while let Some(token) = tokens.next() {
-        inspection = inspection.with_token(alloc, limits, query, token, tokens)?;
+        inspection.pass(alloc, limits, query, token, tokens)?;
     }
     Ok(inspection)
 }

@@ -204,6 +204,7 @@ pub(crate) struct Measured {
 }
 
 /// The measure of a token, which comes after `=~` or `!~` or does not.
+#[inline(always)]
 pub(crate) fn token_measure(
     alloc: Global,
     after_operator: bool,
@@ -256,25 +257,19 @@ impl Measured {
         })
     }
 
-    /// The same with one more token, the one of this index.
-    pub(crate) fn with_token(
-        self,
-        text: &str,
-        most: usize,
-        index: usize,
-        measure: usize,
-    ) -> Measured
+    /// Adds the measure of one more token, the one of this index.
+    #[inline(always)]
+    pub(crate) fn add(&mut self, text: &str, most: usize, index: usize, measure: usize)
         ensures { (before after : List ℕ) (n : ℕ) → spec.token_measures text.now ≡ before ++ n ∷ after
-            → length before ≡ index → measure ≡ min n usize.MAX → AreMeasured text.now most before self
-            → AreMeasured text.now most (before ++ n ∷ []) result }
+            → length before ≡ index → measure ≡ min n usize.MAX → AreMeasured text.now most before self.old
+            → AreMeasured text.now most (before ++ n ∷ []) self.new }
     {
-        let size = self.size.saturating_add(measure);
-        match self.passed {
-            None if size > most => Measured {
-                size,
-                passed: Some(token_numbered(text, index)),
-            },
-            passed => Measured { size, passed },
+        if measure == 0 {
+            return;
+        }
+        self.size = self.size.saturating_add(measure);
+        if self.passed.is_none() && self.size > most {
+            self.passed = Some(token_numbered(text, index));
         }
     }
 }

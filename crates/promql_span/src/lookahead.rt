@@ -20,6 +20,7 @@ pub fn comes_first(id: TokenId, tokens: Cursor<'_>) -> bool
 }
 
 /// Whether a sign after this token has one operand.
+#[inline(always)]
 pub fn is_before_operand(id: TokenId) -> bool
     ensures { result ≡ spec.is_before_operand id }
 {
@@ -31,6 +32,7 @@ pub fn is_before_operand(id: TokenId) -> bool
 }
 
 /// What stands for a token after this one: a name for a word that is an operator elsewhere, where an operand begins.
+#[inline(always)]
 pub fn stands_for(before: TokenId, id: TokenId) -> TokenId
     ensures { result ≡ spec.stands_for before id }
 {

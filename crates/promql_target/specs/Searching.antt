@@ -1,5 +1,5 @@
 -- What a pass over the first tokens of a query found. Private: nothing rests on believing it.
-use Rattle.std.specs.Prelude.{◌≡◌, ℕ, ◌+◌, ◌≤◌, length, map, slice_get}
+use Rattle.std.specs.Prelude.{◌≡◌, ◌+◌, ◌≤◌, length, map, slice_get}
 use Rattle.std.specs.Option.{option_or}
 use Rattle.promql_text.specs.Texts.{Text}
 use Rattle.promql_span.specs.Differences.{Tokens}

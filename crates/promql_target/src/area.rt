@@ -59,6 +59,7 @@ impl Area {
     }
 
     /// The token that closes it.
+    #[inline(always)]
     fn closing(self) -> TokenId
         ensures { result ≡ spec.closing self }
     {
@@ -71,6 +72,7 @@ impl Area {
 }
 
 /// What a token opens that has this one before it.
+#[inline(always)]
 fn opened(before: TokenId, id: TokenId) -> Area
     ensures { result ≡ spec.opened before id }
 {
@@ -85,6 +87,7 @@ fn opened(before: TokenId, id: TokenId) -> Area
 
 impl Place {
     /// Whether an operand ends before it.
+    #[inline(always)]
     pub fn is_after_operand(self) -> bool
         ensures { result ≡ spec.is_after_operand self }
     {
@@ -95,6 +98,7 @@ impl Place {
     }
 
     /// Whether a length of time comes.
+    #[inline(always)]
     pub fn is_before_time(self) -> bool
         ensures { result ≡ spec.is_before_time self }
     {
@@ -102,6 +106,7 @@ impl Place {
     }
 
     /// The area after a token.
+    #[inline(always)]
     fn area_after(self, id: TokenId) -> Area
         ensures { result ≡ spec.area_after self id }
     {
@@ -114,6 +119,7 @@ impl Place {
 
     /// What stands for a token: a comma for the end of an operator's labels, since an operand comes after it, and a name for the word
     /// of an operator, where an operand begins.
+    #[inline(always)]
     fn token_for(self, id: TokenId) -> TokenId
         ensures { result ≡ spec.token_for self id }
     {
@@ -124,6 +130,7 @@ impl Place {
         }
     }
 
+    #[inline(always)]
     fn token_in(self, id: TokenId) -> TokenId
         ensures { result ≡ spec.token_in self.area id }
     {
@@ -134,6 +141,7 @@ impl Place {
     }
 
     /// Whether a token is the `offset` before a time, or a sign after it.
+    #[inline(always)]
     fn is_offset(self, id: TokenId) -> bool
         ensures { result ≡ spec.is_offset self id }
     {
@@ -145,6 +153,7 @@ impl Place {
     }
 
     /// The place after a token.
+    #[inline(always)]
     pub fn after(self, id: TokenId) -> Place
         ensures { result ≡ spec.after self id }
     {

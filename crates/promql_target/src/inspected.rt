@@ -65,7 +65,7 @@ fn inspect_printed(alloc: Global, limits: &Limits, query: &str) -> Result<Inspec
     let mut tokens = Cursor::new(query);
     let mut inspection = Inspection::new();
     while let Some(token) = tokens.next() {
-        inspection = inspection.with_token(alloc, limits, query, token, tokens)?;
+        inspection.pass(alloc, limits, query, token, tokens)?;
     }
     match inspection.limit_fault(limits) {
         Some(fault) => Err(fault),
@@ -94,8 +94,8 @@ fn inspect_checked(
     let mut found = FoundRefusal::new();
     let mut inspection = Inspection::new();
     while let Some(token) = tokens.next() {
-        found = found.with_token(target, query, token, tokens);
-        inspection = inspection.with_token(alloc, limits, query, token, tokens)?;
+        found.pass(target, query, token, tokens);
+        inspection.pass(alloc, limits, query, token, tokens)?;
     }
     match inspection.limit_fault(limits) {
         Some(fault) => Err(fault),

@@ -130,7 +130,7 @@ pub fn first_refusal(target: Target, query: &str) -> Option<Refusal>
     let mut tokens = Cursor::new(query);
     let mut found = FoundRefusal::new();
     while let Some(token) = tokens.next() {
-        found = found.with_token(target, query, token, tokens);
+        found.pass(target, query, token, tokens);
     }
     found.first
 }
@@ -157,26 +157,26 @@ impl FoundRefusal {
         }
     }
 
-    /// The same with one more token of the query, which has `rest` after it.
-    pub(crate) fn with_token(
-        self,
+    /// Goes past one more token of the query, which has `rest` after it.
+    #[inline(always)]
+    pub(crate) fn pass(
+        &mut self,
         target: Target,
         query: &str,
         token: (TokenId, &str),
         rest: Cursor<'_>,
-    ) -> FoundRefusal
-        requires { IsSearched target query.now ((token.0, token.1.now) ∷ tokens_left rest) self }
-        ensures { IsSearched target query.now (tokens_left rest.entry) result }
+    )
+        requires { IsSearched target query.now ((token.0, token.1.now) ∷ tokens_left rest) self.old }
+        ensures { IsSearched target query.now (tokens_left rest.entry) self.new }
     {
         let kind = refused_kind(target, self.place, token, rest);
-        FoundRefusal {
-            place: self.place.after(token.0),
-            index: self.index + 1,
-            first: self.first_with(query, kind),
-        }
+        self.first = self.first_with(query, kind);
+        self.place = self.place.after(token.0);
+        self.index += 1;
     }
 
     /// The first part, where this is rejected at one more token.
+    #[inline(always)]
     fn first_with(&self, query: &str, kind: Option<RefusalKind>) -> Option<Refusal>
         ensures { result ≡ option_or self.now.first (option_map (spec.refusal_at query.now) (option_map (λ k. (self.now.index, k)) kind)) }
     {
@@ -230,6 +230,7 @@ fn push_refusal(
 }
 
 /// What the target rejects at a token, which has `rest` after it.
+#[inline(always)]
 fn refused_kind(
     target: Target,
     place: Place,
@@ -243,6 +244,7 @@ fn refused_kind(
 }
 
 /// What is rejected at a token, which has `rest` after it.
+#[inline(always)]
 fn kind_at(place: Place, id: TokenId, token: &str, rest: Cursor<'_>) -> Option<RefusalKind>
     ensures { result ≡ spec.kind_at place (id, token.now) (tokens_left rest.entry) }
 {
@@ -385,6 +387,7 @@ fn after_brace(tokens: Cursor<'_>) -> Cursor<'_>
 }
 
 /// What is rejected at a word, or at another token.
+#[inline(always)]
 fn word_kind(place: Place, id: TokenId, word: &str, rest: Cursor<'_>) -> Option<RefusalKind>
     ensures { result ≡ spec.word_kind place (id, word.now) (tokens_left rest.entry) }
 {
