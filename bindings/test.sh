@@ -132,6 +132,8 @@ install_missing() {
     has_libyaml "$(python_with_yaml || echo /usr/bin/python3)" || missing+=(python3-yaml)
     python3 -c 'import pytest' 2>/dev/null || missing+=(python3-pytest)
     python3 -c 'import mypy' 2>/dev/null || missing+=(mypy)
+    command -v flake8 >/dev/null || missing+=(flake8)
+    command -v shellcheck >/dev/null || missing+=(shellcheck)
     [ -d /etc/grafana/dashboards ] || missing+=(ceph-grafana-dashboards ceph-prometheus-alerts)
     command -v chromium >/dev/null || missing+=(chromium)
     command -v vim >/dev/null || missing+=(vim)
@@ -401,6 +403,12 @@ checked_by_shellcheck() {
     (cd "$root" && git ls-files | xargs grep -lE '^#!.*(bash|/sh)$' | xargs shellcheck -x -e SC2030,SC2031)
 }
 
+# checked_by_flake8: whether flake8 finds a name in the modules and scripts of Python that is not there, or that nothing uses.
+checked_by_flake8() {
+    (cd "$root" && { git ls-files '*.py' && git ls-files | grep -vE '\.(py|md)$' | xargs grep -lIE '^#!.*python3'; } |
+        xargs flake8 --isolated --select E9,F)
+}
+
 # sizes_have_each_crate: whether `bin/count_definitions --sizes` has a line for each crate that is not of tests, and their sums.
 sizes_have_each_crate() {
     local crate sizes
@@ -419,6 +427,7 @@ test_scripts() {
     local script
     try 'bin/count_definitions --sizes' sizes_have_each_crate
     if has shellcheck 'scripts for a shell'; then try 'scripts for a shell' checked_by_shellcheck; fi
+    if has flake8 'the names in Python'; then try 'the names in Python' checked_by_flake8; fi
     has mypy 'the types of the scripts' || return
     for script in checks.py count_definitions list_edits manuals prove test_expected test_vendor vendor; do
         MYPYPATH=$root/bin try "the types of bin/$script" mypy --strict --cache-dir "$work/mypy" "$root/bin/$script"
@@ -738,7 +747,7 @@ test_editor() {
 export -f build_kit_tests kit_folder shows_own_names build_c bench_prints example_prints build_sanitized overrun_is_reported build_with_musl with_stack under_valgrind build_project
 export -f find_installed in_python unit_tests print_counts print_cargo_counts sizes_have_each_crate
 export debian_crates
-export -f formatted_rust formatted_go checked_by_shellcheck in_cargo cargo_tests cargo_tests_with_serde build_rust cache_keys in_go go_tests
+export -f formatted_rust formatted_go checked_by_shellcheck checked_by_flake8 in_cargo cargo_tests cargo_tests_with_serde build_rust cache_keys in_go go_tests
 
 parts=(names c install python scripts rust go examples)
 case "${1:-}" in

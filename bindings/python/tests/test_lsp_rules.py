@@ -309,7 +309,7 @@ class Files(unittest.TestCase):
         self.assertGreater(count, 6)
         self.assertEqual(Lines(BROKEN).span(found["range"]), (0, len(BROKEN)))
         data = self.client.request("textDocument/semanticTokens/full", {"textDocument": {"uri": URI}})["data"]
-        line, words = 0, []
+        line, character, words = 0, 0, []
         for at in range(0, len(data), 5):
             line, character = line + data[at], data[at + 1] + (character if data[at] == 0 else 0)
             words.append(BROKEN.split("\n")[line][character : character + data[at + 2]])

@@ -217,6 +217,7 @@ class Same(unittest.TestCase):
         """Reading and writing keep nothing, and lose nothing."""
         query, wrong = QUERIES.read_text(encoding="utf-8").splitlines()[0], '{"bool":false,"lhs":{"type":"numberLiteral","val":"é"},"matching":'
         expr = tree.parse(query)
+        before = 0
         for round_ in range(3):
             for _ in range(100):
                 tree.parse(query), str(expr), _node_calls.read_form(wrong), _node_calls.form_text(Paren(Call("nosuch")))

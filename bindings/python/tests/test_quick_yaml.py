@@ -21,7 +21,7 @@ from test_rule_files import FILES, NAMES, PLACES, RULE, Folder, file_of
 from written import rule_file
 
 try:
-    from yaml import CSafeLoader as _
+    from yaml import CSafeLoader  # noqa: F401
 except ImportError as error:
     raise unittest.SkipTest("there is no PyYAML with libyaml here") from error
 

@@ -29,7 +29,7 @@ BUILT = ("libpromql.so", "_native.abi3.so")
 try:
     import ruamel.yaml  # noqa: F401
     import setuptools
-    import wheel  # noqa: F401
+    import wheel as package_wheel  # noqa: F401
 
     HAS_SETUPTOOLS = int(setuptools.__version__.split(".")[0]) >= 64
 except ImportError:
