@@ -733,6 +733,24 @@ class Enforcing(Folder):
         self.assertEqual(run("format", "--check", "--enforce", 'namespace="team-a"', self.file(ran.out)).status, 0)
         self.assertEqual(run("format", "--enforce", "namespace", path).status, 11)
 
+    def test_no_matcher(self):
+        """What is wrong with a text that is no matcher is said as `promql enforce` does."""
+        path = self.file(file_of("up"))
+        for matcher, said in (
+            ("a=b", 'unexpected identifier "b", expected string\na=b\n  ^'),
+            ('{a="b"}', "unexpected left brace '{' inside braces\n{a=\"b\"}\n^"),
+            ('a="b",c="d"', 'it is not one matcher\na="b",c="d"\n           ^'),
+            ('a=~"("', 'illegal regex for (\na=~"("\n   ^~~'),
+            ("a", 'unexpected end, expected "=", "=~", "!=" or "!~"\na\n ^'),
+            ("a!", "unexpected end\na!\n  ^"),
+            ("a\x1b", "unexpected character inside braces: '\\x1b'\na\\x1b\n ^~~~"),
+            ("", "it is empty\n\n^"),
+        ):
+            ran = run("format", "--enforce", matcher, path)
+            self.assertEqual(ran, (11, "", f"--enforce: not a matcher: {said}\n"), matcher)
+        said = "a matcher of the metric name cannot be enforced"
+        self.assertEqual(run("format", "--enforce", '__name__="a"', path), (11, "", f"--enforce: {said}\n"))
+
     def test_by_a_function(self):
         """Which queries are given to the function, and what is done with its texts."""
 
