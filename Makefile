@@ -2,7 +2,7 @@
 #     installs what dist/ has: the program, with its manual page and completions for bash, zsh and fish, and the library for C, with what
 #     pkg-config and CMake find it by. Nothing is built. PROCESSOR is x86_64 or aarch64, and is that of this machine where it is not named.
 # make uninstall [PREFIX=/usr/local] [DESTDIR=]
-#     removes these files.
+#     removes these files, and the folders of this name that are empty then.
 PREFIX = /usr/local
 PROCESSOR := $(shell uname -m)
 to = $(DESTDIR)$(PREFIX)
@@ -36,3 +36,4 @@ install:
 
 uninstall:
 	cd "$(to)" && rm -f $(files)
+	@cd "$(to)" && rmdir share/doc/promql lib/cmake/promql 2>/dev/null || true

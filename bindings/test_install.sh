@@ -16,14 +16,16 @@ files_in() {
     (cd "$1" && find . ! -type d | sort)
 }
 
-# What is installed is the same with DESTDIR; others can read it, whatever the umask; and `make uninstall` removes it all.
+# What is installed is the same with DESTDIR; others can read it, whatever the umask; and `make uninstall` removes it all, the
+# folders that have its name, too.
 install_all() {
     (umask 077 && make_for install PREFIX="$prefix" && make_for install PREFIX='/usr a' DESTDIR="$work/image") || return
     cmp "$made/promql" "$prefix/bin/promql" || return
     [ "$("$prefix/bin/promql" line <<<'1+2')" = '1 + 2' ] || return
     [ -z "$(find "$prefix" -type f ! -perm -444)" ] || return
     diff <(files_in "$prefix") <(files_in "$work/image/usr a") || return
-    make_for uninstall PREFIX='/usr a' DESTDIR="$work/image" && [ -z "$(files_in "$work/image")" ]
+    make_for uninstall PREFIX='/usr a' DESTDIR="$work/image" || return
+    [ -z "$(files_in "$work/image")" ] && [ -z "$(find "$work/image" -name promql)" ]
 }
 
 # pkg_config WORD..: what pkg-config says of the library that was installed.
