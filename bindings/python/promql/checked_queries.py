@@ -247,6 +247,9 @@ class PlacedSpelling(NamedTuple):
     def room(self, width: int) -> int:
         return sys.maxsize
 
+    def room_of_lines(self, width: int) -> int:
+        return sys.maxsize
+
     def edit(self, text: str) -> Edit:
         return Edit(self.start, self.end, text)
 

@@ -146,6 +146,9 @@ class JsonString(NamedTuple):
     def room(self, width: int) -> int:
         return sys.maxsize if self.after else width
 
+    def room_of_lines(self, width: int) -> int:
+        return self.room(width)
+
     def edit(self, text: str) -> Edit:
         return Edit(self.start, self.end, json.dumps(self.before + text + self.after, ensure_ascii=self.source.isascii()))
 

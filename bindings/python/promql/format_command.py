@@ -20,7 +20,7 @@ from .files import BLANKS, STDIN, BoundError, FileError, write_file
 from .jobs import Report, add_arguments, as_bytes, bounds_of, work_on
 from .messages import ERROR, KEPT, LAYOUT, REJECTED, RULE, WARNING, Message, in_order, kind_of_skipped, left_out, of_error, placed
 from .options import PEOPLE, PRETTY, STYLES, WIDTH, whole_number
-from .queries import Edit, Query, SameQuery, edited
+from .queries import Edit, Query, SameQuery, Spelling, edited
 from .terminal import visible
 from .token_texts import comments_of
 
@@ -72,13 +72,21 @@ class Printer:
 
     def text(self, query: Query) -> Optional[str]:
         """The query as it is to be written; or nothing, where its variables would not come back."""
-        width = query.spelling.room(self.width)
         if not query.variables:
-            return self._laid_out(self.meant(query.text), width)
+            return self._fitted(self.meant(query.text), query.spelling)
         try:
-            return query.variables.come_back(self._laid_out(query.laid_out, width))
+            return query.variables.come_back(self._fitted(query.laid_out, query.spelling))
         except promql.QueryError:
             return None
+
+    def _fitted(self, query: str, spelling: Spelling) -> str:
+        """The query laid out on one line where its key is, or for people on several that are as wide as a block may be."""
+        width = spelling.room(self.width)
+        if self.style == PRETTY:
+            # (which does not count the indentations in it)
+            return self._laid_out(query, width)
+        text = self._laid_out(query, spelling.room_of_lines(self.width))
+        return text if "\n" in text or len(text.encode()) <= width else self._laid_out(query, width)
 
     def _laid_out(self, query: str, width: int) -> str:
         """The query in this style; for people, whose chains of operators are flat, where it would be longer than a query may be."""

@@ -56,7 +56,10 @@ class Spelling(Protocol):
     """How a file spells a query."""
 
     def room(self, width: int) -> int:
-        """How wide the query may be in a file of this width."""
+        """How wide the query may be in a file of this width, on one line."""
+
+    def room_of_lines(self, width: int) -> int:
+        """How wide the lines of the query may be there, if it has several."""
 
     def edit(self, text: str) -> Edit:
         """What writes this query there instead."""

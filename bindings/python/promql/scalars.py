@@ -233,8 +233,15 @@ class Scalar(NamedTuple):
         return reading.offsets + array("L", [self._content_end()]) if reading and reading.text == value else None
 
     def room(self, width: int) -> int:
+        return self._room_after(_KEY, width)
+
+    def room_of_lines(self, width: int) -> int:
+        return self._room_after(_STEP, width)
+
+    def _room_after(self, before: int, width: int) -> int:
+        """What is left of this width so far after the column of the key, where there may be a block."""
         one_line = self.in_flow or self.has_comment_below()
-        return sys.maxsize if one_line else max(width - self.column - _KEY, 0)
+        return sys.maxsize if one_line else max(width - self.column - before, 0)
 
     def edit(self, text: str) -> Edit:
         if self.is_block():

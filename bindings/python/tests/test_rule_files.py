@@ -162,6 +162,21 @@ class Formatted(Folder):
             self.assertEqual(run("format", *wrong, path)[:2], (9, ""))
         self.assertEqual(run("format", "--style", "pretty", "--width", 65_536, path).status, 0)
 
+    def test_width_of_lines(self):
+        """A query of one line has the columns after its key, also in a block; the lines of another one have those after its indentation."""
+        for style in "", "|-\n      ":
+            for length in 84, 85, 88, 89:
+                query = f"{'n' * 70} + {'m' * (length - 73)}"
+                text = file_of("", style + query)
+                out = run("format", "--width", 94, self.file(text)).out
+                self.assertEqual(out == text, length == 84, length)
+                self.assertEqual(run("format", "--check", "--width", 94, self.file(out)).status, 0, length)
+        for length, lines in (88, 2), (89, 4):
+            first = f"sum(rate({'n' * (length - 15)}[5m]))"
+            out = run("format", "--width", 94, self.file(file_of(f"{first} / on (job) group_left () sum(up)"))).out
+            self.assertEqual(out.count("\n") - RULE.count("\n") - 1, lines, out)
+            self.assertEqual(f"      {first}\n" in out, lines == 2, out)
+
     def test_indentation(self):
         ran = run("format", "--width", 20, "--indent", 4, self.file(file_of("sum(aaaaaaaaa + bbbbbbbbbbbb)")))
         self.assertIn("\n          aaaaaaaaa\n", ran.out)
