@@ -5,6 +5,7 @@ pub mod SeenEnforced
 pub mod SeenMapped
 pub mod SeenNormal
 pub mod SeenParens
+pub mod SeenReadable
 pub mod SeenRenamed
 pub mod SeenSelectors
 pub mod SeenClauses

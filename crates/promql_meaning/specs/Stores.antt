@@ -2,7 +2,9 @@
 use Rattle.std.specs.Prelude.{ℕ, List, [], filter, Some, None, codes}
 use Rattle.promql_label.specs.PlainMatchers.{PlainMatcher, plain_matchers}
 use Rattle.promql_ast.specs.Selectors.{Selector, selector}
+use Rattle.promql_ast.specs.Tree.{Tree}
 use Rattle.promql_rewrite.specs.Selecting.{Series, allows, selects}
+use Rattle.promql_when.specs.MayRead.{may_read}
 
 -- a series of a store: its labels, and a number that stands for its samples
 pub record Stored : Type 0 where
@@ -19,6 +21,10 @@ read s store = filter (λ x. selects s x.labels) store
 -- those that a matcher allows
 abbrev pub kept : PlainMatcher → Store → Store
 kept c store = filter (λ x. allows c x.labels) store
+
+-- those that a query may read
+abbrev pub readable : Tree → Store → Store
+readable t store = filter (λ x. may_read x.labels t) store
 
 -- what `info` reads where it has no second argument
 abbrev pub target_info : Selector

@@ -22,7 +22,7 @@ ghost use Rattle.promql_run.specs.declared.format.Format.TheVariants.{Line, Pret
 ghost use Rattle.promql_span.specs.declared.limits.Limits.{Limits};
 ghost use Rattle.promql_meaning.specs.Relabeled.{relabeled, under_old_name};
 ghost use Rattle.promql_meaning.specs.Seen.{has_call_that_sees_beside, seen};
-ghost use Rattle.promql_meaning.specs.Stores.{Store, kept};
+ghost use Rattle.promql_meaning.specs.Stores.{Store, kept, readable};
 
 /// A tree's normal form sees what the tree sees. So, with one answer for each pattern, the text of a text's tree, on one line or
 /// laid out, has a tree that sees what that tree sees; and two texts that print alike see alike.
@@ -79,6 +79,13 @@ pub fn selectors_that_read_alike_see_alike()
         → map (λ (x : KindedSelector). seen s (vector x.1)) (selectors_of t)
         ≡ map (λ (x : KindedSelector). seen s (vector x.1)) (selectors_of u)
         → has_call_that_sees_beside t ≡ false → seen s t ≡ seen s u }
+{}
+
+/// A query sees the same where a store has only the series that it may read (`may_read`). So a series that it may not read changes nothing
+/// of what it sees, and stores that have the same of the others, in the same order, cannot be told apart by it.
+pub fn unread_series_change_nothing()
+    ensures kept { (s : Store) (t : Tree) → seen s t ≡ seen (readable t s) t }
+    ensures apart { (r s : Store) (t : Tree) → readable t r ≡ readable t s → seen r t ≡ seen s t }
 {}
 
 /// From text to text: what `enforce_query` and `promql_enforce` write of a query is answered by a tree which sees nothing but what

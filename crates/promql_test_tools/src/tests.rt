@@ -7,6 +7,7 @@ mod formatting;
 mod placing;
 mod refusing;
 mod rewriting;
+mod series;
 mod timing;
 
 use promql_ast::CheckError;

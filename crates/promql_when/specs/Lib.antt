@@ -1,6 +1,7 @@
 pub mod Ends
 pub mod Found
 pub mod Last
+pub mod MayRead
 pub mod Pinned
 pub mod Reached
 pub mod ReachFound

@@ -7,6 +7,7 @@ mod overflow;
 mod pinning;
 mod reach;
 mod reading;
+mod series;
 mod times;
 mod window;
 
@@ -15,4 +16,5 @@ pub use overflow::{TimedNode, WindowsError};
 pub use pinning::{PinError, asks_grid, pinned};
 pub use reach::{Reach, SelectorReach, reaches};
 pub use reading::{SelectorWindow, windows};
+pub use series::{SeriesLabel, may_read, selects};
 pub use times::{Times, Window};
