@@ -20,6 +20,7 @@ import (
 	"errors"
 	"fmt"
 	"runtime"
+	"strings"
 	"sync"
 	"unsafe"
 )
@@ -496,8 +497,8 @@ func textOrError(query, text string, result C.struct_promql_result) (string, err
 	case C.PROMQL_NUMBER_TOO_WIDE:
 		return "", ErrNumberTooWide
 	case C.PROMQL_BAD_MATCHER:
-		if text == ErrNotAMatcher.Error() {
-			return "", ErrNotAMatcher
+		if reason := strings.TrimPrefix(text, ErrNotAMatcher.Error()); reason != text {
+			return "", fmt.Errorf("%w%s", ErrNotAMatcher, reason)
 		}
 		return "", ErrMetricName
 	case C.PROMQL_UNFAITHFUL:

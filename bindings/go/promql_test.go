@@ -188,6 +188,9 @@ func TestEnforce(t *testing.T) {
 			t.Errorf("%q: %v", matcher, err)
 		}
 	}
+	if _, err := promql.Enforce("foo", "a=b"); err == nil || err.Error() != `not a matcher: 1:3: unexpected identifier "b", expected string` {
+		t.Error(err)
+	}
 	if got, err := promql.Enforce("info(b, {c='2'})", "a='1'"); err != nil || got != `info(b{a="1"}, {a="1",c="2"})` {
 		t.Errorf("%q, %v", got, err)
 	}

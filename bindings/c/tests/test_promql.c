@@ -249,8 +249,9 @@ static void test_enforcing(void)
     CHECK(gives(enforcing("1 +\xff", 1), PROMQL_REJECTED, "invalid promql query"));
     CHECK(has_place(enforcing("1 +\xff", 1), 3, 3, 1, 4));
     CHECK(gives(enforcing("\xff\xff", 1), PROMQL_NOT_UTF8, "input is not UTF-8"));
-    CHECK(gives(enforcing("foo", 0), PROMQL_BAD_MATCHER, "not a matcher"));
-    CHECK(gives(enforcing("fooa=\"1\"} or x{b=\"2\"", 18), PROMQL_BAD_MATCHER, "not a matcher"));
+    CHECK(gives(enforcing("foo", 0), PROMQL_BAD_MATCHER, "not a matcher: 1:1: it is empty"));
+    CHECK(gives(enforcing("fooa=\"1\"} or x{b=\"2\"", 18), PROMQL_BAD_MATCHER,
+                "not a matcher: 1:6: unexpected \"}\", a matcher has no braces"));
     CHECK(gives(enforcing("foo\xff", 1), PROMQL_BAD_MATCHER, "not a matcher"));
     CHECK(gives(enforcing("foo__name__=\"bar\"", 14), PROMQL_BAD_MATCHER, "a matcher of the metric name cannot be enforced"));
     CHECK(gives(enforcing("\xff" "a=\"1\"", 5), PROMQL_NOT_UTF8, "input is not UTF-8"));
@@ -259,7 +260,8 @@ static void test_enforcing(void)
     CHECK(gives(enforcing("info(b)a=\"1\"", 5), PROMQL_BARE_INFO, bare));
     CHECK(gives(enforcing("sum(c) + topk(scalar(info(b)), d)a=\"1\"", 5), PROMQL_BARE_INFO, bare));
     CHECK(has_place(enforcing("info(b)a=\"1\"", 5), 0, 0, 0, 0));
-    CHECK(gives(enforcing("info(b)a", 1), PROMQL_BAD_MATCHER, "not a matcher"));
+    CHECK(gives(enforcing("info(b)a", 1), PROMQL_BAD_MATCHER,
+                "not a matcher: 1:2: unexpected end, expected \"=\", \"=~\", \"!=\" or \"!~\""));
     CHECK(gives(enforcing("info(b)\xff", 1), PROMQL_BAD_MATCHER, "not a matcher"));
     CHECK(gives(enforcing("info(b) +a=\"1\"", 5), PROMQL_REJECTED, "invalid promql query"));
     CHECK(gives(of_query(CALL_CHECK, "info(b)"), PROMQL_OK, ""));

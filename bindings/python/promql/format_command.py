@@ -29,8 +29,6 @@ _NEEDS_LINES = "it has a comment, and has to stay on one line here"
 _ANY_VALUES = "its variables of Grafana may have any values"
 _TOO_LONG = "laid out, it would be longer than a query may be"
 _NOT_BACK = "its variables of Grafana would not come back"
-# What the library says of a text that is no matcher.
-_NO_MATCHER = "not a matcher"
 # The status where the width or the indentation is more than there may be.
 _TOO_WIDE = 9
 _LINE = re.compile(r"[^\n]*\n|[^\n]+")
@@ -150,25 +148,8 @@ def _enforcer(matcher: Optional[str]) -> Callable[[str], str]:
     try:
         promql.enforce("up", matcher)
     except ValueError as error:
-        reason = _matcher_reason(matcher) if str(error) == _NO_MATCHER else str(error)
-        raise FileError(f"--enforce: {reason}", getattr(error, "number", 0) or Status.FAILED) from error
+        raise FileError(f"--enforce: {visible(str(error))}", getattr(error, "number", 0) or Status.FAILED) from error
     return partial(promql.enforce, matcher=matcher)
-
-
-def _matcher_reason(matcher: str) -> str:
-    """Why a text is no matcher, as `promql enforce` says it: the first thing that is wrong, and the text with a mark below."""
-    message, start, end = "it is not one matcher" if matcher.strip() else "it is empty", len(matcher), len(matcher)
-    try:
-        if matcher.strip():
-            promql.canonical(f"{{{matcher}\n}}")
-    except promql.QueryError as error:
-        if error.start <= len(matcher):
-            message, start, end = error.message, max(error.start - 1, 0), min(error.end - 1, len(matcher))
-        else:
-            *names, last = error.expected or ("",)
-            message = f"unexpected end, expected {', '.join(names)}{' or ' if names else ''}{last}" if last else "unexpected end"
-    marked = promql.QueryError(message, matcher, start, end, 1, 1).snippet()
-    return f"{_NO_MATCHER}: {visible(message)}\n{marked}"
 
 
 def _look_at_sizes(arguments: argparse.Namespace) -> None:

@@ -749,17 +749,17 @@ class Enforcing(Folder):
         self.assertEqual(run("format", "--enforce", "namespace", path).status, 11)
 
     def test_no_matcher(self):
-        """What is wrong with a text that is no matcher is said as `promql enforce` does."""
+        """What is wrong with a text that is no matcher is said, and where."""
         path = self.file(file_of("up"))
         for matcher, said in (
-            ("a=b", 'unexpected identifier "b", expected string\na=b\n  ^'),
-            ('{a="b"}', "unexpected left brace '{' inside braces\n{a=\"b\"}\n^"),
-            ('a="b",c="d"', 'it is not one matcher\na="b",c="d"\n           ^'),
-            ('a=~"("', 'illegal regex for (\na=~"("\n   ^~~'),
-            ("a", 'unexpected end, expected "=", "=~", "!=" or "!~"\na\n ^'),
-            ("a!", "unexpected end\na!\n  ^"),
-            ("a\x1b", "unexpected character inside braces: '\\x1b'\na\\x1b\n ^~~~"),
-            ("", "it is empty\n\n^"),
+            ("a=b", '1:3: unexpected identifier "b", expected string'),
+            ('{a="b"}', "1:1: unexpected left brace '{' inside braces"),
+            ('a="b",c="d"', "1:6: it is not one matcher"),
+            ('a="b"}', '1:6: unexpected "}", a matcher has no braces'),
+            ('a=~"("', "1:4: illegal regex for ("),
+            ("a", '1:2: unexpected end, expected "=", "=~", "!=" or "!~"'),
+            ("a\x1b", "1:2: unexpected character inside braces: '\\x1b'"),
+            ("", "1:1: it is empty"),
         ):
             ran = run("format", "--enforce", matcher, path)
             self.assertEqual(ran, (11, "", f"--enforce: not a matcher: {said}\n"), matcher)

@@ -78,8 +78,8 @@ pub enum Error {
     WideLayout(String),
     /// The query has no JSON form: a number of milliseconds is below -2^63 or above 2^64 - 1.
     NumberTooWide,
-    /// The matcher is none.
-    NotAMatcher,
+    /// The text is no matcher: what is wrong, and where.
+    NotAMatcher(String),
     /// The matcher is one of the metric's name, `__name__`, which cannot be enforced.
     MetricName,
     /// The query that was made would not mean the changed query, or the tree: why.
@@ -166,9 +166,9 @@ impl fmt::Display for Error {
             }
             Error::LevelTooHigh => f.write_str("level is above 512"),
             Error::NumberTooWide => f.write_str("number too wide for JSON"),
-            Error::NotAMatcher => f.write_str(NOT_A_MATCHER),
             Error::MetricName => f.write_str("a matcher of the metric name cannot be enforced"),
-            Error::Unfaithful(message)
+            Error::NotAMatcher(message)
+            | Error::Unfaithful(message)
             | Error::NotATree(message)
             | Error::TooLargeTree(message)
             | Error::MatcherReadOtherwise(message)
@@ -190,7 +190,7 @@ impl error::Error for Rejection {}
 
 impl error::Error for Error {}
 
-/// The message of a text that is no matcher.
+/// How the message about a text that is no matcher begins.
 const NOT_A_MATCHER: &str = "not a matcher";
 
 /// The message of a thread with little stack.
@@ -420,7 +420,7 @@ fn text_of((text, answer): (String, Answer)) -> Result<String, Error> {
         library::REFUSED => Err(Error::Refused(rejection_of(text, &answer))),
         library::UNKNOWN_MODE => Err(Error::LevelTooHigh),
         library::NUMBER_TOO_WIDE => Err(Error::NumberTooWide),
-        library::BAD_MATCHER if text == NOT_A_MATCHER => Err(Error::NotAMatcher),
+        library::BAD_MATCHER if text.starts_with(NOT_A_MATCHER) => Err(Error::NotAMatcher(text)),
         library::BAD_MATCHER => Err(Error::MetricName),
         library::UNFAITHFUL => Err(Error::Unfaithful(text)),
         library::BARE_INFO => Err(Error::BareInfo),

@@ -78,7 +78,8 @@ fn forms_have_places() {
 fn matchers_are_enforced() {
     let enforced = enforce("sum(rate(foo[5m])) / bar", r#"namespace="team-a""#);
     assert_eq!(enforced.as_deref(), Ok(r#"sum(rate(foo{namespace="team-a"}[5m])) / bar{namespace="team-a"}"#));
-    assert_eq!(enforce("foo", r#"a="1"} or {b="2""#), Err(Error::NotAMatcher));
+    let braces = r#"not a matcher: 1:6: unexpected "}", a matcher has no braces"#;
+    assert_eq!(enforce("foo", r#"a="1"} or {b="2""#), Err(Error::NotAMatcher(braces.to_string())));
     assert_eq!(enforce("foo", r#"__name__="up""#), Err(Error::MetricName));
     let enforced = enforce("info(b, {c='2'})", r#"a="1""#);
     assert_eq!(enforced.as_deref(), Ok(r#"info(b{a="1"}, {a="1",c="2"})"#));

@@ -5,6 +5,7 @@ ghost use Rattle.promql_grammar.specs.Results.{on_result};
 ghost use Rattle.promql_c.specs.CallResults.{IsStored, Shows, placed_result};
 ghost use Rattle.promql_lines.specs.QueryErrors.{query_error_number, rejected_in};
 
+use promql_lines::matcher_reason::error_message;
 use promql_lines::query_error::QueryError;
 use promql_report::rejection::Rejection;
 use std::alloc::Global;
@@ -93,11 +94,16 @@ pub(crate) fn show_text(text: &str, buffer: &mut [u8]) -> CallResult
     plain(status, text.len())
 }
 
-/// Writes the message of an error if it fits. A message for which an allocation failed is empty.
-fn show_error(alloc: Global, error: &QueryError, buffer: &mut [u8]) -> CallResult
+/// Writes the message of an error if it fits, where this matcher was to be enforced. A message for which an allocation failed is empty.
+fn show_error(
+    alloc: Global,
+    error: &QueryError,
+    matcher: Option<&str>,
+    buffer: &mut [u8],
+) -> CallResult
     ensures { Shows (Err error.now) result buffer.old buffer.new }
 {
-    let message = error.to_string(alloc).unwrap_or(String::new(alloc));
+    let message = error_message(alloc, error, matcher).unwrap_or(String::new(alloc));
     store(message.as_str(), buffer);
     result_of(error, message.len())
 }
@@ -106,8 +112,20 @@ fn show_error(alloc: Global, error: &QueryError, buffer: &mut [u8]) -> CallResul
 pub(crate) fn show(alloc: Global, made: Result<String, QueryError>, buffer: &mut [u8]) -> CallResult
     ensures { Shows (on_result (λ s. string_bytes s) made) result buffer.old buffer.new }
 {
+    show_enforced(alloc, made, None, buffer)
+}
+
+/// The same, where this matcher was to be enforced.
+pub(crate) fn show_enforced(
+    alloc: Global,
+    made: Result<String, QueryError>,
+    matcher: Option<&str>,
+    buffer: &mut [u8],
+) -> CallResult
+    ensures { Shows (on_result (λ s. string_bytes s) made) result buffer.old buffer.new }
+{
     match made {
         Ok(text) => show_text(text.as_str(), buffer),
-        Err(error) => show_error(alloc, &error, buffer),
+        Err(error) => show_error(alloc, &error, matcher, buffer),
     }
 }

@@ -11,7 +11,7 @@ ghost use Rattle.promql_c.specs.Formats.{format_numbered, format_options, mode_n
 ghost use Rattle.promql_c.specs.PartsText.{IsPartsText};
 ghost use Rattle.promql_c.specs.PlacesText.{IsPlacesText};
 
-use crate::call_result::{CallResult, show, show_text};
+use crate::call_result::{CallResult, show, show_enforced, show_text};
 use crate::collecting::collect_query;
 use crate::differing::difference_query;
 use crate::enforcing::enforce_query;
@@ -73,7 +73,7 @@ pub fn enforce(
     ensures { ShowsSome (IsEnforceOf limits.now query.now matcher.now) result buffer.old buffer.new }
 {
     let made = enforce_query(alloc, limits, query, matcher);
-    show(alloc, made, buffer)
+    show_enforced(alloc, made, str::from_utf8(matcher).ok(), buffer)
 }
 
 /// Prints a query on one line with another name for the metric, where `kind` is 0, or the label, where it is 1, that is named `from`.

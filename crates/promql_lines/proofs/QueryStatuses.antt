@@ -33,6 +33,8 @@ numbers_are_own error.NotItsLayout = refl
 numbers_are_own error.NotAName = refl
 numbers_are_own error.MetricName = refl
 numbers_are_own error.Clash = refl
+numbers_are_own (error.TimeOverflow node) = refl
+numbers_are_own error.GridFunction = refl
 
 pub not_status : (e : QueryError) (n : ℕ) → is_own n ≡ false → ¬ (query_error_number e ≡ n)
 not_status e n none is = let same : true ≡ false = sym (numbers_are_own e) ∙ ap is_own is ∙ none in cc
@@ -66,6 +68,8 @@ three_is_not_utf8 error.NotItsLayout three = cc
 three_is_not_utf8 error.NotAName three = cc
 three_is_not_utf8 error.MetricName three = cc
 three_is_not_utf8 error.Clash three = cc
+three_is_not_utf8 (error.TimeOverflow node) three = cc
+three_is_not_utf8 error.GridFunction three = cc
 
 -- what is written ends with 0 or 5
 abbrev pub is_written : ℕ → Bool

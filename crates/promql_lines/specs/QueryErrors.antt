@@ -45,6 +45,8 @@ query_error_number error.NotAName = 20
 query_error_number error.MetricName = 21
 query_error_number error.Clash = 22
 query_error_number (error.MatcherOtherwise at) = 23
+query_error_number (error.TimeOverflow node) = 25
+query_error_number error.GridFunction = 26
 
 -- the query that is rejected, where that is the error
 abbrev pub rejected_in : QueryError → Option RejectedQuery

@@ -9,6 +9,7 @@ pub mod formatted_query;
 mod limit_checks;
 pub mod line;
 mod line_within;
+pub mod matcher_reason;
 pub mod mode;
 pub mod output;
 pub mod placed_text;

@@ -24,6 +24,7 @@ ghost use Rattle.promql_report.specs.Rejecting.{IsRead};
 
 use crate::answer_text::{answer_of_json, answer_within};
 use crate::enforced_line::{NotEnforced, enforced_within};
+use crate::matcher_reason::error_message;
 use crate::mode::Mode;
 use crate::placed_text::placed_text;
 use crate::query_error::QueryError;
@@ -287,19 +288,27 @@ fn query_error_value(alloc: Global, error: &QueryError, message: &str) -> Result
     }
 }
 
-/// The text of an object of the error.
-fn error_text(alloc: Global, error: &QueryError) -> Result<String, AllocError>
+/// The text of an object of the error, where this matcher was to be enforced.
+fn error_text(
+    alloc: Global,
+    error: &QueryError,
+    matcher: Option<&str>,
+) -> Result<String, AllocError>
     ensures { IfOk result (λ s. IsErrorText error.now (string_bytes s)) }
 {
-    let message = error.to_string(alloc)?;
+    let message = error_message(alloc, error, matcher)?;
     let object = query_error_value(alloc, error, message.as_str())?;
     let text = object.to_string(alloc);
     drop(object);
     text
 }
 
-/// The answer to a line of which this was found, without an id.
-fn plain_answer(alloc: Global, found: Result<String, QueryError>) -> Result<LineAnswer, AllocError>
+/// The answer to a line of which this was found, without an id. This matcher was to be enforced.
+fn plain_answer(
+    alloc: Global,
+    found: Result<String, QueryError>,
+    matcher: Option<&str>,
+) -> Result<LineAnswer, AllocError>
     ensures { (settings : batches.Settings) (line : Text)
         → IfOk found (λ s. IsOkLine settings line (string_bytes s)) → IfErr found (FailsWith settings line)
         → IfOk result (λ a. IsPlainAnswer settings line (string_bytes a.text) a.is_ok) }
@@ -307,7 +316,7 @@ fn plain_answer(alloc: Global, found: Result<String, QueryError>) -> Result<Line
     match found {
         Ok(text) => Ok(LineAnswer { text, is_ok: true }),
         Err(error) => Ok(LineAnswer {
-            text: error_text(alloc, &error)?,
+            text: error_text(alloc, &error, matcher)?,
             is_ok: false,
         }),
     }
@@ -323,7 +332,8 @@ fn answer_request(
     ensures { (line : Text) → IsUtf8 line → read line ≡ Some (view asked.now)
         → IfOk result (λ a. IsLineAnswer settings.now line (string_bytes a.text) a.is_ok) }
 {
-    let LineAnswer { text, is_ok } = plain_answer(alloc, answer_value(alloc, settings, asked))?;
+    let found = answer_value(alloc, settings, asked);
+    let LineAnswer { text, is_ok } = plain_answer(alloc, found, matcher_in(asked))?;
     let text = answer_with_id(alloc, asked, text)?;
     Ok(LineAnswer { text, is_ok })
 }
@@ -338,7 +348,11 @@ fn answer_json(alloc: Global, settings: &Settings, line: &str) -> Result<LineAns
             drop(asked);
             answer
         }
-        None => plain_answer(alloc, Err(QueryError::NotARequest(RequestFault::NotJson))),
+        None => plain_answer(
+            alloc,
+            Err(QueryError::NotARequest(RequestFault::NotJson)),
+            None,
+        ),
     }
 }
 
@@ -351,7 +365,7 @@ fn answer_text(alloc: Global, settings: &Settings, line: &str) -> Result<LineAns
     };
     let mode = Mode::Plain(settings.format);
     let answer = answer_query(alloc, &settings.limits, mode, query.as_str(), None);
-    plain_answer(alloc, answer)
+    plain_answer(alloc, answer, None)
 }
 
 /// The answer to a line: an object with the member `ok`, or with `code`, `error` and, for a query that is rejected, its
@@ -365,6 +379,6 @@ pub fn answer_line(
 {
     match str::from_utf8(line) {
         Ok(text) => answer_text(alloc, settings, text),
-        Err(_) => plain_answer(alloc, Err(QueryError::NotUtf8)),
+        Err(_) => plain_answer(alloc, Err(QueryError::NotUtf8), None),
     }
 }

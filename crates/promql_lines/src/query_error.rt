@@ -107,6 +107,12 @@ pub enum QueryError {
     /// Both labels are in the matchers of one selector, or in the lists of one aggregation or of one operator.
     #[error("both labels are in one list")]
     Clash,
+    /// 64 bits do not hold a time of the node that has this text.
+    #[error("a time of `{0}` is below -2^63 or above 2^63 - 1 milliseconds")]
+    TimeOverflow(String),
+    /// The query is to be pinned, and calls `start`, `end`, `step` or `range`.
+    #[error("a call of `start`, `end`, `step` or `range` depends on the times of the whole query")]
+    GridFunction,
 }
 
 impl QueryError {
@@ -146,6 +152,8 @@ impl QueryError {
             QueryError::MetricName => 21,
             QueryError::Clash => 22,
             QueryError::MatcherOtherwise(_) => 23,
+            QueryError::TimeOverflow(_) => 25,
+            QueryError::GridFunction => 26,
         }
     }
 
@@ -176,7 +184,9 @@ impl QueryError {
             | QueryError::NotItsLayout
             | QueryError::NotAName
             | QueryError::MetricName
-            | QueryError::Clash => None,
+            | QueryError::Clash
+            | QueryError::TimeOverflow(_)
+            | QueryError::GridFunction => None,
         }
     }
 }

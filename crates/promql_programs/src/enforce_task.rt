@@ -4,9 +4,9 @@ ghost use Rattle.std.specs.Prelude.{Err, IfErr, IfOk, string_bytes};
 ghost use Rattle.promql_lines.specs.EnforcedLines.{IsEnforcedLine};
 ghost use Rattle.promql_programs.specs.EnforcedAnswers.{IsEnforcedAnswer};
 
-use crate::matcher_reason::matcher_reason;
 use crate::task::Task;
 use promql_lines::enforced_line::enforced_line;
+use promql_lines::matcher_reason::matcher_report;
 use promql_lines::query_error::QueryError;
 use promql_rewrite::MatcherError;
 use promql_span::Target;
@@ -44,7 +44,7 @@ impl<'a> Task for Enforce<'a> {
     fn reason(&self, alloc: Global, error: &QueryError) -> Result<Option<String>, AllocError> {
         match error {
             QueryError::Matcher(MatcherError::NotAMatcher) => {
-                Ok(Some(matcher_reason(alloc, self.matcher)?))
+                Ok(Some(matcher_report(alloc, self.matcher)?))
             }
             _ => Ok(None),
         }

@@ -9,7 +9,6 @@ pub mod format_settings;
 pub mod format_task;
 pub mod job;
 pub mod limit_options;
-mod matcher_reason;
 pub mod misuse;
 pub mod print_task;
 pub mod program;

@@ -64,7 +64,7 @@ fn answer(call: &Call<'_>) -> Vec<u8> {
         Err(Error::TooLarge(it)) => line(14, [it.range.start, it.range.end, it.line, it.column], &it.message),
         Err(Error::Rejected(it)) => line(4, [it.range.start, it.range.end, it.line, it.column], &it.message),
         Err(error @ Error::NumberTooWide) => line(6, [0; 4], &error.to_string()),
-        Err(error @ (Error::NotAMatcher | Error::MetricName)) => line(11, [0; 4], &error.to_string()),
+        Err(error @ (Error::NotAMatcher(_) | Error::MetricName)) => line(11, [0; 4], &error.to_string()),
         Err(error @ Error::BareInfo) => line(13, [0; 4], &error.to_string()),
         Err(Error::LargeEnforced(message)) => line(16, [0; 4], &message),
         Err(Error::LongOutput(message)) => line(18, [0; 4], &message),
