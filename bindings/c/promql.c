@@ -34,6 +34,8 @@ static struct limits limits_now(void)
     return (struct limits){max_len, max_pattern_size, max_output, target};
 }
 
+/* (`CallTimes` of crates/promql_c is `struct promql_times`.) */
+
 /* What crates/promql_c exports. A slice of Rattle is a pointer that is not NULL, and a length of at most PTRDIFF_MAX. */
 void call_print(const struct limits *limits, const void *query, size_t query_length, uint32_t mode,
                 uint32_t level, size_t width, void *buffer, size_t buffer_size, struct promql_result *result);
@@ -54,6 +56,14 @@ void call_differences(const struct limits *limits, const void *query, size_t que
                       size_t buffer_size, struct promql_result *result);
 void call_tokens(const struct limits *limits, const void *text, size_t text_length, void *buffer,
                  size_t buffer_size, struct promql_result *result);
+void call_windows(const struct limits *limits, const void *query, size_t query_length, const struct promql_times *times,
+                  void *buffer, size_t buffer_size, struct promql_result *result);
+void call_last_read(const struct limits *limits, const void *query, size_t query_length, int64_t time,
+                    const struct promql_times *times, void *buffer, size_t buffer_size, struct promql_result *result);
+void call_pinned(const struct limits *limits, const void *query, size_t query_length, int64_t start, int64_t end, void *buffer,
+                 size_t buffer_size, struct promql_result *result);
+void call_is_constant(const struct limits *limits, const void *query, size_t query_length, void *buffer,
+                      size_t buffer_size, struct promql_result *result);
 void call_check(const struct limits *limits, const void *query, size_t query_length, void *buffer,
                 size_t buffer_size, struct promql_result *result);
 void call_explain(const struct limits *limits, const void *query, size_t query_length, uint32_t as_json, void *buffer,
@@ -313,6 +323,50 @@ uint32_t promql_tokens(const char *text, size_t text_length, char *buffer, size_
         return refuse(status, result);
     struct limits limits = limits_now();
     call_tokens(&limits, start_of(text), text_length, room_of(buffer), buffer_size, result);
+    return result->status;
+}
+
+uint32_t promql_windows(const char *query, size_t query_length, const struct promql_times *times, char *buffer, size_t buffer_size,
+                        struct promql_result *result)
+{
+    uint32_t status = times != NULL ? look_at(query, query_length, buffer, buffer_size, result) : PROMQL_BAD_POINTER;
+    if (status != PROMQL_OK)
+        return refuse(status, result);
+    struct limits limits = limits_now();
+    call_windows(&limits, start_of(query), query_length, times, room_of(buffer), buffer_size, result);
+    return result->status;
+}
+
+uint32_t promql_last_read(const char *query, size_t query_length, int64_t time, const struct promql_times *times, char *buffer,
+                          size_t buffer_size, struct promql_result *result)
+{
+    uint32_t status = times != NULL ? look_at(query, query_length, buffer, buffer_size, result) : PROMQL_BAD_POINTER;
+    if (status != PROMQL_OK)
+        return refuse(status, result);
+    struct limits limits = limits_now();
+    call_last_read(&limits, start_of(query), query_length, time, times, room_of(buffer), buffer_size, result);
+    return result->status;
+}
+
+uint32_t promql_pinned(const char *query, size_t query_length, int64_t start, int64_t end, char *buffer, size_t buffer_size,
+                       struct promql_result *result)
+{
+    uint32_t status = look_at(query, query_length, buffer, buffer_size, result);
+    if (status != PROMQL_OK)
+        return refuse(status, result);
+    struct limits limits = limits_now();
+    call_pinned(&limits, start_of(query), query_length, start, end, room_of(buffer), buffer_size, result);
+    return result->status;
+}
+
+uint32_t promql_is_constant(const char *query, size_t query_length, char *buffer, size_t buffer_size,
+                            struct promql_result *result)
+{
+    uint32_t status = look_at(query, query_length, buffer, buffer_size, result);
+    if (status != PROMQL_OK)
+        return refuse(status, result);
+    struct limits limits = limits_now();
+    call_is_constant(&limits, start_of(query), query_length, room_of(buffer), buffer_size, result);
     return result->status;
 }
 

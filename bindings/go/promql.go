@@ -442,7 +442,7 @@ func SetTarget(target Target) error {
 	return nil
 }
 
-// SetMaxOutput sets how many bytes what Canonical, Format, JSON and PlacedJSON return has at most, in this process: 4,194,304 before the
+// SetMaxOutput sets how many bytes what Canonical, Format, Pin, JSON and PlacedJSON return has at most, in this process: 4,194,304 before the
 // first call. Where there are more the error is ErrLongOutput.
 func SetMaxOutput(bytes uint) {
 	C.promql_set_max_output(C.size_t(bytes))
@@ -515,6 +515,10 @@ func textOrError(query, text string, result C.struct_promql_result) (string, err
 		return "", ErrMetricLabel
 	case C.PROMQL_CLASH:
 		return "", ErrClash
+	case C.PROMQL_TIME_OVERFLOW:
+		return "", explained{text, ErrTimeOverflow}
+	case C.PROMQL_GRID_FUNCTION:
+		return "", ErrGridFunction
 	case C.PROMQL_SMALL_STACK:
 		return "", ErrSmallStack
 	}

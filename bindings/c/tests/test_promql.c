@@ -39,7 +39,10 @@ static void *allocate(size_t size)
 
 /* A call with its arguments. */
 enum call { CALL_PRINT, CALL_CANONICAL, CALL_CHECK, CALL_SNIPPET, CALL_ENFORCE, CALL_COLLECT, CALL_PRINT_TREE, CALL_EXPLAIN, CALL_PLACES, CALL_PARTS,
-            CALL_TOKENS, CALL_DIFFERENCES };
+            CALL_TOKENS, CALL_DIFFERENCES, CALL_WINDOWS, CALL_LAST_READ, CALL_PINNED, CALL_IS_CONSTANT };
+
+/* Those of each call that has times: 1,000, 1,200 and 1,400 seconds. */
+static struct promql_times times = {1000000, 1500000, 200000, 300000, 60000, 0};
 
 struct request {
     enum call call;
@@ -66,6 +69,14 @@ static uint32_t make_call(const struct request *r, char *buffer, size_t size, st
         return promql_parts(r->query, r->length, buffer, size, result);
     case CALL_DIFFERENCES:
         return promql_differences(r->query, r->length, buffer, size, result);
+    case CALL_WINDOWS:
+        return promql_windows(r->query, r->length, &times, buffer, size, result);
+    case CALL_LAST_READ: /* (at the first time) */
+        return promql_last_read(r->query, r->length, times.start, &times, buffer, size, result);
+    case CALL_PINNED:
+        return promql_pinned(r->query, r->length, times.start, times.end, buffer, size, result);
+    case CALL_IS_CONSTANT:
+        return promql_is_constant(r->query, r->length, buffer, size, result);
     case CALL_TOKENS:
         return promql_tokens(r->query, r->length, buffer, size, result);
     case CALL_PRINT_TREE: /* (`end` says whether parentheses are put) */
@@ -547,6 +558,62 @@ static void test_differences(void)
     CHECK(gives(of_query(CALL_DIFFERENCES, "\xff"), PROMQL_NOT_UTF8, "input is not UTF-8"));
 }
 
+/* The windows are those of `timing.rt` of crates/promql_test_tools. */
+static void test_windows(void)
+{
+    CHECK(gives(of_query(CALL_WINDOWS, "1 + time()"), PROMQL_OK, "[]"));
+    CHECK(gives(of_query(CALL_WINDOWS, "rate(a{b='\xc3\xa9'}[5m] offset -1m @ start())"), PROMQL_OK,
+                "[[\"a{b=\\\"\xc3\xa9\\\"} @ start() offset -1m\",760000,1060000]]"));
+    CHECK(gives(of_query(CALL_WINDOWS, "topk(scalar(b offset 1m), a)"), PROMQL_OK, "[[\"b offset 1m\",640000,1340000],[\"a\",700000,1400000]]"));
+    CHECK(gives(of_query(CALL_WINDOWS, "info(a offset 1m)"), PROMQL_OK, "[[\"a offset 1m\",640000,1340000],[\"target_info\",700000,1400000]]"));
+    CHECK(gives(of_query(CALL_WINDOWS, "a[1m:1h] offset 1m"), PROMQL_OK, "[[\"a\",null,null]]"));
+    CHECK(gives(of_query(CALL_WINDOWS, "a @ 9223372036854775.807"), PROMQL_OK,
+                "[[\"a @ 9223372036854775.807\",9223372036854475807,9223372036854775807]]"));
+    CHECK(gives(of_query(CALL_WINDOWS, "b + a @ -9223372036854775.808"), PROMQL_TIME_OVERFLOW,
+                "a time of `a @ -9223372036854775.808` is below -2^63 or above 2^63 - 1 milliseconds"));
+    CHECK(has_place(of_query(CALL_WINDOWS, "b + a @ -9223372036854775.808"), 0, 0, 0, 0));
+    CHECK(gives(of_query(CALL_WINDOWS, "1 +"), PROMQL_REJECTED, "invalid promql query"));
+    CHECK(has_place(of_query(CALL_WINDOWS, "1 +"), 3, 3, 1, 4));
+    CHECK(gives(of_query(CALL_WINDOWS, "\xff"), PROMQL_NOT_UTF8, "input is not UTF-8"));
+    times.left_open = 1;
+    CHECK(gives(of_query(CALL_WINDOWS, "a"), PROMQL_OK, "[[\"a\",700001,1400000]]"));
+    times.left_open = 0;
+    struct promql_times other = times;
+    times = (struct promql_times){-1, -1, 0, 1, 7, 0};
+    CHECK(gives(of_query(CALL_WINDOWS, "a + max_over_time(b[20ms:])"), PROMQL_OK, "[[\"a\",-2,-1],[\"b\",-22,-7]]"));
+    times = other;
+    struct promql_result result;
+    CHECK(promql_windows("a", 1, NULL, NULL, 0, &result) == PROMQL_BAD_POINTER && result.status == PROMQL_BAD_POINTER);
+    CHECK(promql_last_read("a", 1, 0, NULL, NULL, 0, &result) == PROMQL_BAD_POINTER && result.status == PROMQL_BAD_POINTER);
+}
+
+static void test_last_read(void)
+{
+    CHECK(gives(of_query(CALL_LAST_READ, "a"), PROMQL_OK, "1000000"));
+    CHECK(gives(of_query(CALL_LAST_READ, "a offset 5m + b offset -5m"), PROMQL_OK, "1300000"));
+    CHECK(gives(of_query(CALL_LAST_READ, "a @ end()"), PROMQL_OK, "1500000"));
+    CHECK(gives(of_query(CALL_LAST_READ, "1"), PROMQL_OK, "null"));
+    CHECK(gives(of_query(CALL_LAST_READ, "a @ -9223372036854775.808"), PROMQL_TIME_OVERFLOW,
+                "a time of `a @ -9223372036854775.808` is below -2^63 or above 2^63 - 1 milliseconds"));
+    CHECK(has_place(of_query(CALL_LAST_READ, "1 +"), 3, 3, 1, 4));
+}
+
+static void test_pinned(void)
+{
+    CHECK(gives(of_query(CALL_PINNED, "sum(a@end()) by(b) - last_over_time(c[5m:] offset 1m @ start())"), PROMQL_OK,
+                "sum by (b) (a @ 1500.000) - last_over_time(c[5m:] @ 1000.000 offset 1m)"));
+    CHECK(gives(of_query(CALL_PINNED, "a + on () b"), PROMQL_OK, "a + on () b"));
+    CHECK(gives(of_query(CALL_PINNED, "a > end()"), PROMQL_GRID_FUNCTION,
+                "a call of `start`, `end`, `step` or `range` depends on the times of the whole query"));
+    CHECK(has_place(of_query(CALL_PINNED, "1 +"), 3, 3, 1, 4));
+    promql_set_max_output(3);
+    CHECK(gives(of_query(CALL_PINNED, "1+2"), PROMQL_LONG_OUTPUT, "output is too long: 5 bytes, at most 3"));
+    promql_set_max_output(4194304);
+    CHECK(gives(of_query(CALL_IS_CONSTANT, "a @ end() + 1"), PROMQL_OK, "true"));
+    CHECK(gives(of_query(CALL_IS_CONSTANT, "a + 1"), PROMQL_OK, "false"));
+    CHECK(has_place(of_query(CALL_IS_CONSTANT, "1 +"), 3, 3, 1, 4));
+}
+
 static void test_tokens(void)
 {
     CHECK(gives(of_query(CALL_TOKENS, ""), PROMQL_OK, "[]"));
@@ -1015,6 +1082,9 @@ int main(int argc, char **argv)
         test_places();
         test_parts();
         test_differences();
+        test_windows();
+        test_last_read();
+        test_pinned();
         test_tokens();
         test_trees();
         test_pointers();

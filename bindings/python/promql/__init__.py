@@ -37,6 +37,7 @@ __all__ = [
     "BareInfoError",
     "Difference",
     "Error",
+    "GridFunctionError",
     "LargeEnforcedError",
     "LongOutputError",
     "MatcherError",
@@ -47,11 +48,13 @@ __all__ = [
     "RefusedError",
     "RenameError",
     "SmallStackError",
+    "TimeOverflowError",
     "Token",
     "TooLargeError",
     "TooLargeTreeError",
     "TreeError",
     "UnfaithfulError",
+    "Window",
     "canonical",
     "canonical_many",
     "check",
@@ -60,9 +63,12 @@ __all__ = [
     "enforce",
     "format",
     "format_query",
+    "is_constant",
+    "last_read",
     "limits",
     "parse",
     "parts",
+    "pinned",
     "places",
     "pretty",
     "print_tree",
@@ -73,8 +79,9 @@ __all__ = [
     "tokens",
     "tree",
     "version",
+    "windows",
 ]
-__version__ = "0.5.0"
+__version__ = "0.6.0"
 
 
 def __dir__() -> List[str]:
@@ -120,6 +127,14 @@ class LargeEnforcedError(Error):
 
 class LongOutputError(Error):
     """What would be returned is too long (`set_limits`)."""
+
+
+class TimeOverflowError(Error):
+    """64 bits do not hold a time of the query in milliseconds: the message shows the node."""
+
+
+class GridFunctionError(Error):
+    """The query is not pinned: it calls `start`, `end`, `step` or `range`, whose values are those of the whole query."""
 
 
 class SmallStackError(Error):
@@ -230,7 +245,7 @@ def set_limits(
     """Sets what each later query has to be within, in this process: at most so many bytes, and patterns of at most this size together
     (docs/reference/programs.md, "Limits of a query"). A query that is not raises TooLargeError before it is parsed. A matcher that is
     enforced, and the query with it, have the same limits: where they are not within them, `enforce` raises LargeEnforcedError.
-    `canonical`, `format`, `pretty` and `parse` raise LongOutputError where the text that they make has more than `max_output` bytes.
+    `canonical`, `format`, `pinned`, `pretty` and `parse` raise LongOutputError where the text that they make has more than `max_output` bytes.
     `print_tree` raises TooLargeTreeError where the JSON text of the tree has more than `max_tree` bytes, or its patterns are larger than
     those of a query may be, before anything of it is compiled."""
     wanted = {"max_len": max_len, "max_patterns": max_patterns, "max_output": max_output, "max_tree": max_tree}
@@ -465,6 +480,61 @@ def _tokens(text: str) -> Sequence[Tuple[str, int, int]]:
     return [(kind, before[start], before[end]) for kind, start, end in found]
 
 
+class Window(NamedTuple):
+    """What a selector, as it prints without its range, reads over all times of a query: the samples from the millisecond `first` through
+    `last`, or None where it is never evaluated."""
+
+    selector: str
+    first: Optional[int]
+    last: Optional[int]
+
+
+def windows(
+    query: str, start: int, end: int, step: int = 0, *, lookback: int = 300_000, default_step: int = 60_000, left_open: bool = True
+) -> List[Window]:
+    """When each selector of a query reads, in the order of a walk, at the times from `start` to `end` by `step`, all in milliseconds
+    (docs/guide/bindings.md, "When a query reads"). Raises TimeOverflowError where 64 bits do not hold a window.
+
+    >>> promql.windows("rate(a[5m] offset 1h) / b", 7_200_000, 10_800_000, 60_000, left_open=False)
+    [Window(selector='a offset 1h', first=3300000, last=7200000), Window(selector='b', first=6900000, last=10800000)]
+    """
+    times = _times(start, end, step, lookback, default_step, left_open)
+    return [Window(*row) for row in json.loads(_text(query, _caller.windows(query, *times)))]
+
+
+def last_read(
+    query: str, time: int, start: int, end: int, *, lookback: int = 300_000, default_step: int = 60_000, left_open: bool = True
+) -> Optional[int]:
+    """The last millisecond that a query reads at `time`, or None where it reads nothing: its value there is final once all samples up to it
+    are known. `start` and `end` are those of `@ start()` and `@ end()`. Raises what `windows` raises."""
+    times = _times(start, end, 0, lookback, default_step, left_open)
+    last: Optional[int] = json.loads(_text(query, _caller.last_read(query, _time("time", time), *times)))
+    return last
+
+
+def pinned(query: str, start: int, end: int) -> str:
+    """The query on one line with these times, in milliseconds, for `@ start()` and `@ end()`: it reads the same in parts of its times
+    (docs/guide/cache.md). Raises GridFunctionError where it calls `start`, `end`, `step` or `range`."""
+    return _text(query, _caller.pinned(query, _time("start", start), _time("end", end)))
+
+
+def is_constant(query: str) -> bool:
+    """Whether the query is the same at every time; it may be where this is False (docs/reference/when.md, "Constant queries")."""
+    return _text(query, _caller.is_constant(query)) == "true"
+
+
+def _times(start: int, end: int, step: int, lookback: int, default_step: int, left_open: bool) -> Tuple[int, ...]:
+    lengths = {"step": step, "lookback": lookback, "default_step": default_step}
+    sizes = (_number(name, length, _MAX_LIMIT) for name, length in lengths.items())
+    return (_time("start", start), _time("end", end), *sizes, int(left_open))
+
+
+def _time(name: str, time: int) -> int:
+    if not -(2**63) <= index(time) < 2**63:
+        raise ValueError(f"{name} is not from -2^63 to 2^63 - 1: {time}")
+    return index(time)
+
+
 def check(query: str) -> None:
     """Returns where the query is accepted, and the target reads it as it is read here (`set_target`), and else raises QueryError."""
     _text(query, _caller.check(query))
@@ -519,6 +589,8 @@ _ERRORS: Dict[int, Type[Exception]] = {
     Status.NOT_A_NAME: RenameError,
     Status.METRIC_LABEL: RenameError,
     Status.CLASH: RenameError,
+    Status.TIME_OVERFLOW: TimeOverflowError,
+    Status.GRID_FUNCTION: GridFunctionError,
     Status.READ_OTHERWISE: MatcherError,
     Status.OUT_OF_MEMORY: MemoryError,
 }

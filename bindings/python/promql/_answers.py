@@ -29,6 +29,8 @@ class Status(IntEnum):
     CLASH = 22
     READ_OTHERWISE = 23
     REFUSED = 24
+    TIME_OVERFLOW = 25
+    GRID_FUNCTION = 26
 
 
 class Target(IntEnum):

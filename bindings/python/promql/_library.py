@@ -24,10 +24,26 @@ class Result(ctypes.Structure):
     _fields_ = [("status", ctypes.c_uint32), *((name, ctypes.c_size_t) for name in ("length", "start", "end", "line", "column"))]
 
 
+class Times(ctypes.Structure):
+    """`struct promql_times`."""
+
+    _fields_ = [
+        *((name, ctypes.c_int64) for name in ("start", "end")),
+        *((name, ctypes.c_uint64) for name in ("step", "lookback", "default_step")),
+        ("left_open", ctypes.c_uint32),
+    ]
+
+
 _QUERY = [ctypes.c_char_p, ctypes.c_size_t]
 _BUFFER = [ctypes.c_char_p, ctypes.c_size_t, ctypes.POINTER(Result)]
 _SIGNATURES = {
-    **{f"promql_{name}": [*_QUERY, *_BUFFER] for name in ("canonical", "check", "collect", "differences", "parts", "places", "tokens")},
+    **{
+        f"promql_{name}": [*_QUERY, *_BUFFER]
+        for name in ("canonical", "check", "collect", "differences", "is_constant", "parts", "places", "tokens")
+    },
+    "promql_windows": [*_QUERY, ctypes.POINTER(Times), *_BUFFER],
+    "promql_last_read": [*_QUERY, ctypes.c_int64, ctypes.POINTER(Times), *_BUFFER],
+    "promql_pinned": [*_QUERY, ctypes.c_int64, ctypes.c_int64, *_BUFFER],
     "promql_print": [*_QUERY, ctypes.c_uint32, ctypes.c_uint32, ctypes.c_size_t, *_BUFFER],
     "promql_enforce": [*_QUERY, *_QUERY, *_BUFFER],
     "promql_rename": [*_QUERY, ctypes.c_uint32, *_QUERY, *_QUERY, *_BUFFER],
@@ -102,6 +118,7 @@ canonical: _AboutQuery = partial(_about, "promql_canonical", 2)
 check: _AboutQuery = partial(_about, "promql_check", 0)
 collect: _AboutQuery = partial(_about, "promql_collect", 4)
 differences: _AboutQuery = partial(_about, "promql_differences", 2)
+is_constant: _AboutQuery = partial(_about, "promql_is_constant", 0)
 parts: _AboutQuery = partial(_about, "promql_parts", 8)
 places: _AboutQuery = partial(_about, "promql_places", 4)
 tokens: _AboutQuery = partial(_about, "promql_tokens", 16)
@@ -128,6 +145,18 @@ def enforce(query: str, matcher: str) -> Answer:
 def rename(query: str, kind: int, old: str, new: str) -> Answer:
     encoded = _encoded(query), _encoded(old), _encoded(new)
     return _about("promql_rename", 2, query, kind, encoded[1], len(encoded[1]), encoded[2], len(encoded[2]))
+
+
+def windows(query: str, *times: int) -> Answer:
+    return _about("promql_windows", 4, query, ctypes.byref(Times(*times)))
+
+
+def last_read(query: str, time: int, *times: int) -> Answer:
+    return _about("promql_last_read", 0, query, time, ctypes.byref(Times(*times)))
+
+
+def pinned(query: str, start: int, end: int) -> Answer:
+    return _about("promql_pinned", 2, query, start, end)
 
 
 def explain(query: str) -> Answer:

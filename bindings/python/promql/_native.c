@@ -34,6 +34,10 @@ struct library {
     __typeof__(promql_parts) *parts;
     __typeof__(promql_differences) *differences;
     __typeof__(promql_tokens) *tokens;
+    __typeof__(promql_windows) *windows;
+    __typeof__(promql_last_read) *last_read;
+    __typeof__(promql_pinned) *pinned;
+    __typeof__(promql_is_constant) *is_constant;
     __typeof__(promql_check) *check;
     __typeof__(promql_explain) *explain;
     __typeof__(promql_snippet) *snippet;
@@ -46,8 +50,8 @@ struct library {
     __typeof__(promql_set_target) *set_target;
 };
 
-enum call { PRINT, CANONICAL, ENFORCE, RENAME, COLLECT, PLACES, PARTS, DIFFERENCES, TOKENS, CHECK, EXPLAIN, SNIPPET, PRINT_TREE,
-            FORMAT_QUERY, VERSION };
+enum call { PRINT, CANONICAL, ENFORCE, RENAME, COLLECT, PLACES, PARTS, DIFFERENCES, TOKENS, WINDOWS, LAST_READ, PINNED, IS_CONSTANT,
+            CHECK, EXPLAIN, SNIPPET, PRINT_TREE, FORMAT_QUERY, VERSION };
 
 /* A call with what it is given. `room` is how many bytes of text are likely for each byte of the query. */
 struct request {
@@ -71,6 +75,8 @@ struct request {
     uint32_t as_json;
     size_t start;
     size_t end;
+    int64_t time;
+    struct promql_times times;
 };
 
 /* What the module has of its own. The texts of trees that it writes have at most so many bytes: the library reads no longer ones. */
@@ -105,6 +111,14 @@ static uint32_t make_call(const struct library *library, const struct request *r
         return library->differences(query, length, buffer, size, result);
     case TOKENS:
         return library->tokens(query, length, buffer, size, result);
+    case WINDOWS:
+        return library->windows(query, length, &request->times, buffer, size, result);
+    case LAST_READ:
+        return library->last_read(query, length, request->time, &request->times, buffer, size, result);
+    case PINNED:
+        return library->pinned(query, length, request->times.start, request->times.end, buffer, size, result);
+    case IS_CONSTANT:
+        return library->is_constant(query, length, buffer, size, result);
     case CHECK:
         return library->check(query, length, buffer, size, result);
     case EXPLAIN:
@@ -291,6 +305,44 @@ static PyObject *differences(PyObject *module, PyObject *query)
 static PyObject *tokens(PyObject *module, PyObject *text)
 {
     return answer_about(module, text, (struct request){.call = TOKENS, .room = 16});
+}
+
+static PyObject *is_constant(PyObject *module, PyObject *query)
+{
+    return answer_about(module, query, (struct request){.call = IS_CONSTANT});
+}
+
+static PyObject *windows(PyObject *module, PyObject *arguments)
+{
+    PyObject *query;
+    long long start, end;
+    unsigned long long step, lookback, default_step;
+    unsigned int left_open;
+    if (!PyArg_ParseTuple(arguments, "OLLKKKI", &query, &start, &end, &step, &lookback, &default_step, &left_open))
+        return NULL;
+    return answer_about(module, query,
+                        (struct request){.call = WINDOWS, .times = {start, end, step, lookback, default_step, left_open}, .room = 4});
+}
+
+static PyObject *last_read(PyObject *module, PyObject *arguments)
+{
+    PyObject *query;
+    long long time, start, end;
+    unsigned long long step, lookback, default_step;
+    unsigned int left_open;
+    if (!PyArg_ParseTuple(arguments, "OLLLKKKI", &query, &time, &start, &end, &step, &lookback, &default_step, &left_open))
+        return NULL;
+    return answer_about(module, query,
+                        (struct request){.call = LAST_READ, .time = time, .times = {start, end, step, lookback, default_step, left_open}});
+}
+
+static PyObject *pinned(PyObject *module, PyObject *arguments)
+{
+    PyObject *query;
+    long long start, end;
+    if (!PyArg_ParseTuple(arguments, "OLL", &query, &start, &end))
+        return NULL;
+    return answer_about(module, query, (struct request){.call = PINNED, .times = {.start = start, .end = end}, .room = 2});
 }
 
 static PyObject *check(PyObject *module, PyObject *query)
@@ -725,7 +777,9 @@ static PyObject *load(PyObject *module, PyObject *path)
         find(handle, "promql_enforce", &found.enforce) || find(handle, "promql_rename", &found.rename) ||
         find(handle, "promql_collect", &found.collect) || find(handle, "promql_places", &found.places) ||
         find(handle, "promql_parts", &found.parts) || find(handle, "promql_tokens", &found.tokens) ||
-        find(handle, "promql_differences", &found.differences) ||
+        find(handle, "promql_differences", &found.differences) || find(handle, "promql_windows", &found.windows) ||
+        find(handle, "promql_last_read", &found.last_read) || find(handle, "promql_pinned", &found.pinned) ||
+        find(handle, "promql_is_constant", &found.is_constant) ||
         find(handle, "promql_check", &found.check) || find(handle, "promql_explain", &found.explain) ||
         find(handle, "promql_snippet", &found.snippet) ||
         find(handle, "promql_version", &found.version) || find(handle, "promql_set_limits", &found.set_limits) ||
@@ -774,10 +828,13 @@ static PyMethodDef methods[] = {
     {"form_text", form_text, METH_O, NULL},
     {"format", format, METH_VARARGS, NULL},
     {"format_query", format_query, METH_VARARGS, NULL},
+    {"is_constant", is_constant, METH_O, NULL},
     {"json", json, METH_O, NULL},
+    {"last_read", last_read, METH_VARARGS, NULL},
     {"learn_nodes", learn_nodes, METH_VARARGS, NULL},
     {"parts", parts, METH_O, NULL},
     {"placed_json", placed_json, METH_O, NULL},
+    {"pinned", pinned, METH_VARARGS, NULL},
     {"places", places, METH_O, NULL},
     {"print_nodes", print_nodes, METH_VARARGS, NULL},
     {"print_tree", print_tree, METH_VARARGS, NULL},
@@ -789,6 +846,7 @@ static PyMethodDef methods[] = {
     {"snippet", snippet, METH_VARARGS, NULL},
     {"tokens", tokens, METH_O, NULL},
     {"version", version, METH_NOARGS, NULL},
+    {"windows", windows, METH_VARARGS, NULL},
     {NULL, NULL, 0, NULL},
 };
 

@@ -48,9 +48,11 @@ FUNCTIONS = (
     ("rename", 2, "", ""),
 )
 # (an older library has none)
-for name in "parts", "tokens":
+for name in "is_constant", "parts", "tokens":
     if hasattr(calls, name) and hasattr(_library._library, f"promql_{name}"):
         FUNCTIONS += ((name,),)
+if hasattr(calls, "pinned") and hasattr(_library._library, "promql_pinned"):
+    FUNCTIONS += (("windows", -5, 2**63 - 1, 0, 7, 1, 1), ("last_read", 5, -(2**63), 0, 1, 2**64 - 1, 9, 0), ("pinned", -1, 1))
 if hasattr(calls, "print_tree") and hasattr(_library._library, "promql_print_tree"):
     FUNCTIONS += (("print_tree", 0, 0, 0, True), ("print_tree", 1, 2, 20, False), ("print_tree", 3, 0, 0, True))
 

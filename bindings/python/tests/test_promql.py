@@ -322,6 +322,42 @@ class Texts(unittest.TestCase):
         finally:
             promql.set_target("prometheus-3")
 
+    def test_windows(self):
+        """When selectors read, in Prometheus 3 and 2."""
+        query = "info(rate(a{b='é'}[5m] @ start() offset -1m)) + max_over_time(b[1m:1h])"
+        wanted = [('a{b="é"} @ start() offset -1m', 760_000, 1_060_000), ("target_info", 700_000, 1_400_000), ("b", None, None)]
+        self.assertEqual(promql.windows(query, 1_000_000, 1_500_000, 200_000, left_open=False), wanted)
+        found = promql.windows("a + max_over_time(b[20s:])", 1_000_000, 1_500_000, 200_000, lookback=60_000, default_step=7000)
+        self.assertEqual(found, [("a", 940_001, 1_400_000), ("b", 927_001, 1_400_000)])
+        self.assertEqual(promql.windows("a", -(2**63) + 300_000, -(2**63) + 300_000, left_open=False), [("a", -(2**63), -(2**63) + 300_000)])
+        self.assertEqual(promql.windows("1", 0, 0), [])
+        with self.assertRaises(promql.TimeOverflowError) as raised:
+            promql.windows("b + a @ -9223372036854775.808", 0, 0)
+        message = "a time of `a @ -9223372036854775.808` is below -2^63 or above 2^63 - 1 milliseconds"
+        self.assertEqual((str(raised.exception), raised.exception.number), (message, 25))
+        for rejected, error in (("1 +", promql.QueryError), ("a" * 32_769, promql.TooLargeError), ("\ud800", UnicodeEncodeError)):
+            for call in (lambda it: promql.windows(it, 0, 0), lambda it: promql.last_read(it, 0, 0, 0), promql.is_constant):
+                with self.assertRaises(error):
+                    call(rejected)
+        for times in ((2**63, 0), (0, -(2**63) - 1), (0, 0, -1), (0, 0, 2**64)):
+            with self.assertRaises(ValueError):
+                promql.windows("a", *times)
+        with self.assertRaises(TypeError):
+            promql.windows("a", 0.5, 1)
+
+    def test_last_read(self):
+        for query, last in (("a", 60_000), ("a offset -5m + b offset 5m", 360_000), ("a @ end()", 3_600_000), ("1", None)):
+            self.assertEqual(promql.last_read(query, 60_000, 0, 3_600_000), last, query)
+
+    def test_pinned(self):
+        self.assertEqual(promql.pinned("sum(a@end()) by(b) - c @ start()", -250, 3_600_000), "sum by (b) (a @ 3600.000) - c @ -0.250")
+        with self.assertRaises(promql.GridFunctionError) as raised:
+            promql.pinned("a > end()", 0, 1)
+        self.assertEqual(raised.exception.number, 26)
+        with self.assertRaises(ValueError):
+            promql.pinned("a", 0, 2**63)
+        self.assertEqual([promql.is_constant(query) for query in ("a @ end() + 1", "a + 1")], [True, False])
+
     def tokens_of(self, text):
         """The tokens with their texts, between which there is white space alone."""
         found, at = [], 0

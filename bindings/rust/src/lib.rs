@@ -34,6 +34,7 @@ mod placed;
 mod print_tree;
 mod read_form;
 mod read_node;
+mod times;
 mod tokens;
 mod tree;
 mod visitor;
@@ -46,6 +47,7 @@ pub use function::{Function, ValueType, get_function};
 pub use placed::{PlacedExpr, parse_placed};
 pub use print_tree::{NodeError, NodeFault, parse, places, print, print_layout};
 pub use read_form::{FormError, MOST_HEIGHT};
+pub use times::{EvalTimes, Window, is_constant, last_read, pin, windows};
 pub use tokens::{Difference, Part, PartKind, Token, TokenKind, differences, parts, tokens};
 pub use tree::*;
 pub use visitor::{ExprVisitor, ExprVisitorMut, walk_expr, walk_expr_mut};
@@ -99,6 +101,12 @@ pub enum Error {
     MetricLabel,
     /// Both labels are in one list, and would become one.
     Clash,
+    /// 64 bits do not hold a time of a node in milliseconds: which.
+    TimeOverflow(String),
+    /// The query is not pinned: it calls `start`, `end`, `step` or `range`, whose values are those of the whole query.
+    GridFunction,
+    /// A time or a length of time is no whole number of milliseconds, or 64 bits do not hold it.
+    PartOfMillisecond,
     /// What would be returned is too long ([`set_max_output`]): the numbers.
     LongOutput(String),
     /// The thread has less than 1.25 MiB of stack left, and a query may need as much. Threads of `std::thread` have 2 MiB.
@@ -174,10 +182,13 @@ impl fmt::Display for Error {
             | Error::MatcherReadOtherwise(message)
             | Error::WideLayout(message)
             | Error::LargeEnforced(message)
+            | Error::TimeOverflow(message)
             | Error::LongOutput(message) => f.write_str(message),
             Error::NotAName => f.write_str("the new name is no name of a metric"),
             Error::MetricLabel => f.write_str("the label of the metric name cannot be renamed"),
             Error::Clash => f.write_str("both labels are in one list"),
+            Error::GridFunction => f.write_str("a call of `start`, `end`, `step` or `range` depends on the times of the whole query"),
+            Error::PartOfMillisecond => f.write_str("no whole number of milliseconds"),
             Error::BareInfo => f.write_str("info without a selector reads series that no matcher limits"),
             Error::SmallStack => f.write_str(SMALL_STACK),
             Error::Node(fault) => fault.fmt(f),
@@ -390,7 +401,7 @@ pub fn set_target(target: Target) {
     });
 }
 
-/// Sets how many bytes what [`canonical`], [`format()`], [`json`] and [`placed_json`] return has at most, in this process: 4,194,304 before
+/// Sets how many bytes what [`canonical`], [`format()`], [`pin`], [`json`] and [`placed_json`] return has at most, in this process: 4,194,304 before
 /// the first call.
 pub fn set_max_output(bytes: usize) {
     library::set_max_output(bytes);
@@ -431,6 +442,8 @@ fn text_of((text, answer): (String, Answer)) -> Result<String, Error> {
         library::NOT_A_NAME => Err(Error::NotAName),
         library::METRIC_LABEL => Err(Error::MetricLabel),
         library::CLASH => Err(Error::Clash),
+        library::TIME_OVERFLOW => Err(Error::TimeOverflow(text)),
+        library::GRID_FUNCTION => Err(Error::GridFunction),
         status => unreachable!("status {status}: {text}"),
     }
 }

@@ -32,6 +32,19 @@ pub const METRIC_LABEL: u32 = 21;
 pub const CLASH: u32 = 22;
 pub const READ_OTHERWISE: u32 = 23;
 pub const REFUSED: u32 = 24;
+pub const TIME_OVERFLOW: u32 = 25;
+pub const GRID_FUNCTION: u32 = 26;
+
+/// `struct promql_times`.
+#[repr(C)]
+pub struct CallTimes {
+    pub start: i64,
+    pub end: i64,
+    pub step: u64,
+    pub lookback: u64,
+    pub default_step: u64,
+    pub left_open: u32,
+}
 
 /// `enum promql_named`.
 #[derive(Clone, Copy)]
@@ -93,6 +106,33 @@ extern "C" {
     fn promql_parts(query: *const u8, query_length: usize, buffer: *mut u8, buffer_size: usize, result: *mut Answer) -> u32;
     fn promql_differences(query: *const u8, query_length: usize, buffer: *mut u8, buffer_size: usize, result: *mut Answer) -> u32;
     fn promql_tokens(text: *const u8, text_length: usize, buffer: *mut u8, buffer_size: usize, result: *mut Answer) -> u32;
+    fn promql_windows(
+        query: *const u8,
+        query_length: usize,
+        times: *const CallTimes,
+        buffer: *mut u8,
+        buffer_size: usize,
+        result: *mut Answer,
+    ) -> u32;
+    fn promql_last_read(
+        query: *const u8,
+        query_length: usize,
+        time: i64,
+        times: *const CallTimes,
+        buffer: *mut u8,
+        buffer_size: usize,
+        result: *mut Answer,
+    ) -> u32;
+    fn promql_pinned(
+        query: *const u8,
+        query_length: usize,
+        start: i64,
+        end: i64,
+        buffer: *mut u8,
+        buffer_size: usize,
+        result: *mut Answer,
+    ) -> u32;
+    fn promql_is_constant(query: *const u8, query_length: usize, buffer: *mut u8, buffer_size: usize, result: *mut Answer) -> u32;
     fn promql_check(query: *const u8, query_length: usize, buffer: *mut u8, buffer_size: usize, result: *mut Answer) -> u32;
     fn promql_explain(query: *const u8, query_length: usize, as_json: u32, buffer: *mut u8, buffer_size: usize, result: *mut Answer)
     -> u32;
@@ -219,6 +259,30 @@ pub fn tokens(text: &str) -> (String, Answer) {
 pub fn collect(query: &str) -> (String, Answer) {
     call(query.len(), |(buffer, size, answer)| unsafe {
         promql_collect(query.as_ptr(), query.len(), buffer, size, answer);
+    })
+}
+
+pub fn windows(query: &str, times: &CallTimes) -> (String, Answer) {
+    call(query.len(), |(buffer, size, answer)| unsafe {
+        promql_windows(query.as_ptr(), query.len(), times, buffer, size, answer);
+    })
+}
+
+pub fn last_read(query: &str, time: i64, times: &CallTimes) -> (String, Answer) {
+    call(query.len(), |(buffer, size, answer)| unsafe {
+        promql_last_read(query.as_ptr(), query.len(), time, times, buffer, size, answer);
+    })
+}
+
+pub fn pinned(query: &str, start: i64, end: i64) -> (String, Answer) {
+    call(query.len(), |(buffer, size, answer)| unsafe {
+        promql_pinned(query.as_ptr(), query.len(), start, end, buffer, size, answer);
+    })
+}
+
+pub fn is_constant(query: &str) -> (String, Answer) {
+    call(query.len(), |(buffer, size, answer)| unsafe {
+        promql_is_constant(query.as_ptr(), query.len(), buffer, size, answer);
     })
 }
 

@@ -1,3 +1,5 @@
 pub mod FiniteCollected
+pub mod FiniteWindows
 mod MadeTexts
 pub mod FindingRows
+pub mod RealTimes

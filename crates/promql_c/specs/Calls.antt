@@ -1,9 +1,10 @@
 -- What each call makes of a query (docs/guide/bindings.md, "Calls").
-use Rattle.std.specs.Prelude.{◌≡◌, ◌⊎◌, ℕ, Bool, if◌then◌else◌, [], Option, Some, None, Result, Err}
+use Rattle.std.specs.Prelude.{◌≡◌, ◌⊎◌, ℕ, ℤ, Bool, false, true, if◌then◌else◌, [], Option, Some, None, Result, Err}
 use Rattle.std.specs.Str.{IsUtf8}
 use Rattle.serde_json.specs.Written.{compact_text}
 use Rattle.promql_text.specs.Texts.{Text}
 use Rattle.promql_span.specs.declared.span.Span.{Span}
+use Rattle.promql_ast.specs.Text as one_line
 use Rattle.promql_ast.specs.Tree.{Tree}
 use Rattle.promql_span.specs.declared.limits.Limits.{Limits}
 use Rattle.promql_rewrite.specs.declared.matcher_text.MatcherError.TheVariants as matcher_error
@@ -21,8 +22,13 @@ use Rattle.promql_lines.specs.declared.query_error.QueryError.TheVariants as err
 use Rattle.promql_lines.specs.declared.renamed_line.Named.{Named}
 use Rattle.promql_lines.specs.TreeTexts.{PrintsForm}
 use Rattle.promql_run.specs.declared.format.Format.{Format}
+use Rattle.promql_when.specs.Pinned.{asks_grid, pinned}
+use Rattle.promql_when.specs.Reads.{overflow}
+use Rattle.promql_when.specs.Windows.{asked, instant}
+use Rattle.promql_when.specs.declared.times.Times.{Times}
 use Rattle.promql_lines.specs.declared.mode.Mode.{Mode}
 use Rattle.promql_c.specs.TokensText.{GivesTokens}
+use Rattle.promql_c.specs.WindowsText.{IsLastReadText, IsWindowsText, Overflows}
 
 -- ---- what is made of bytes: a text, or an error
 
@@ -56,7 +62,7 @@ IsRenameOf limits query from to =
 abbrev pub IsTokensOf : Limits → Text → Result Text QueryError → Type 0
 IsTokensOf limits text = OfTexts (IsUtf8 text) (GivesTokens limits text)
 
--- "collect", "places", "parts" and "check": such a text of the query's tree; where it is checked, no text
+-- "collect", "places", "parts", "is constant" and "check": such a text of the query's tree; where it is checked, no text
 abbrev pub IsTextOf : (Tree → Text → Type 0) → Limits → Text → Result Text QueryError → Type 0
 IsTextOf Is limits query = OfTexts (IsUtf8 query) (OfTree limits query (λ t. Gives (Is t) (λ e. ⊥)))
 
@@ -83,3 +89,27 @@ IsTreePrintOf limits max_tree form parens =
 -- "format": a layout for people, which has the query's tree and its comments, and is within the limits of an output
 abbrev pub IsFormattedOf : Limits → FormatOptions → Text → Result Text QueryError → Type 0
 IsFormattedOf limits options query = OfTexts (IsUtf8 query) (IsFormattedQuery limits options query)
+
+-- "windows": those of the query's tree; or 64 bits do not hold a time of the first node whose window they do not hold
+abbrev pub GivesWindows : Times → Tree → Result Text QueryError → Type 0
+GivesWindows ts t = Gives (IsWindowsText ts t) (Overflows (overflow ts t (asked ts)))
+
+abbrev pub IsWindowsOf : Limits → Times → Text → Result Text QueryError → Type 0
+IsWindowsOf limits ts query = OfTexts (IsUtf8 query) (OfTree limits query (GivesWindows ts))
+
+-- "last read": the last millisecond that the query reads at this time
+abbrev pub GivesLastRead : Times → ℤ → Tree → Result Text QueryError → Type 0
+GivesLastRead ts x t = Gives (IsLastReadText ts x t) (Overflows (overflow ts t (Some (instant x))))
+
+abbrev pub IsLastReadOf : Limits → Times → ℤ → Text → Result Text QueryError → Type 0
+IsLastReadOf limits ts x query = OfTexts (IsUtf8 query) (OfTree limits query (GivesLastRead ts x))
+
+-- "pinned": the line of the tree with these times for `@ start()` and `@ end()`; or the query calls a function of the whole query
+abbrev pub IsPinnedLine : ℤ → ℤ → Tree → Text → Type 0
+IsPinnedLine start end t text = (asks_grid t ≡ false) × (text ≡ one_line.text (pinned start end t))
+
+abbrev pub Pins : Limits → ℤ → ℤ → Tree → Result Text QueryError → Type 0
+Pins limits start end t = Then (Gives (IsPinnedLine start end t) (λ e. (asks_grid t ≡ true) × (e ≡ error.GridFunction))) (IsOutput limits)
+
+abbrev pub IsPinnedOf : Limits → ℤ → ℤ → Text → Result Text QueryError → Type 0
+IsPinnedOf limits start end query = OfTexts (IsUtf8 query) (OfTree limits query (Pins limits start end))

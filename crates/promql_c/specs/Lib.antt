@@ -1,5 +1,6 @@
 pub mod CallResults
 pub mod CallLimits
+pub mod CallTimes
 pub mod Calls
 pub mod CallSteps
 pub mod CollectedJson
@@ -10,3 +11,4 @@ pub mod Formats
 pub mod PartsText
 pub mod PlacesText
 pub mod TokensText
+pub mod WindowsText

@@ -3,13 +3,14 @@
 ghost use Rattle.std.specs.Prelude.{◌≡◌, ◌==◌, ◌||◌, [], not, Some, Ok};
 ghost use Rattle.promql_c.specs.declared.calls.TheConstants.{SORTED_MATCHERS};
 ghost use Rattle.promql_c.specs.CallResults.{Shows, ShowsSome};
-ghost use Rattle.promql_c.specs.Calls.{IsEnforceOf, IsExplainOf, IsFormattedOf, IsPrintOf, IsRenameOf, IsSnippetOf, IsTextOf, IsTokensOf, IsTreePrintOf};
+ghost use Rattle.promql_c.specs.Calls.{IsEnforceOf, IsExplainOf, IsFormattedOf, IsLastReadOf, IsPinnedOf, IsPrintOf, IsRenameOf, IsSnippetOf, IsTextOf, IsTokensOf, IsTreePrintOf, IsWindowsOf};
 ghost use Rattle.promql_c.specs.CollectedTexts.{IsCollectedText};
 ghost use Rattle.promql_c.specs.FindingsText.{IsFindingsText};
 ghost use Rattle.promql_span.specs.Targets.{for_rules};
 ghost use Rattle.promql_c.specs.Formats.{format_numbered, format_options, mode_numbered, named_numbered};
 ghost use Rattle.promql_c.specs.PartsText.{IsPartsText};
 ghost use Rattle.promql_c.specs.PlacesText.{IsPlacesText};
+ghost use Rattle.promql_c.specs.WindowsText.{IsConstantText};
 
 use crate::call_result::{CallResult, show, show_enforced, show_text};
 use crate::collecting::collect_query;
@@ -21,6 +22,7 @@ use crate::modes::{format_of, mode_of};
 use crate::placing::{part_query, place_query};
 use crate::printing::{check_query, mark_query, print_query};
 use crate::renaming::{named_of, rename_query};
+use crate::timing::{constant_query, last_read_query, pin_query, window_query};
 use crate::tokens::token_texts;
 use crate::tree_printing::print_form;
 use promql_formatter::FormatOptions;
@@ -28,10 +30,11 @@ use promql_lines::mode::Mode;
 use promql_run::format::Format;
 use promql_span::Span;
 use promql_span::limits::Limits;
+use promql_when::Times;
 use std::alloc::Global;
 
 /// The version of the calls: a new call, or a new status of one, has a new version.
-pub const CALLS_VERSION: &str = "0.5.0";
+pub const CALLS_VERSION: &str = "0.6.0";
 
 /// Prints a query in the mode of this number: 0 on one line, 1 laid out, 2 as JSON, 3 as JSON with the places of nodes and
 /// matchers. `level` counts indentations of two spaces, at most 512, and `width` is the most bytes that a line has, its
@@ -132,6 +135,65 @@ pub fn differences(alloc: Global, limits: &Limits, query: &[u8], buffer: &mut [u
     ensures { ShowsSome (IsTextOf (λ t. IsFindingsText limits.now query.now) (for_rules limits.now) query.now) result buffer.old buffer.new }
 {
     let made = difference_query(alloc, limits, query);
+    show(alloc, made, buffer)
+}
+
+/// Shows when each selector of a query reads over all its times, as JSON (docs/guide/bindings.md, "When a query reads").
+pub fn windows(
+    alloc: Global,
+    limits: &Limits,
+    query: &[u8],
+    times: &Times,
+    buffer: &mut [u8],
+) -> CallResult
+    ensures { ShowsSome (IsWindowsOf limits.now times.now query.now) result buffer.old buffer.new }
+{
+    let made = window_query(alloc, limits, times, query);
+    show(alloc, made, buffer)
+}
+
+/// Shows the last millisecond that a query reads where it is evaluated at this time, as JSON (docs/guide/bindings.md, "When a query
+/// reads").
+pub fn last_read(
+    alloc: Global,
+    limits: &Limits,
+    query: &[u8],
+    time: i64,
+    times: &Times,
+    buffer: &mut [u8],
+) -> CallResult
+    ensures { ShowsSome (IsLastReadOf limits.now times.now time query.now) result buffer.old buffer.new }
+{
+    let made = last_read_query(alloc, limits, times, time, query);
+    show(alloc, made, buffer)
+}
+
+/// Prints a query on one line with these times, in milliseconds since the epoch, for `@ start()` and `@ end()`
+/// (docs/reference/when.md, "Pinned queries").
+pub fn pinned(
+    alloc: Global,
+    limits: &Limits,
+    query: &[u8],
+    start: i64,
+    end: i64,
+    buffer: &mut [u8],
+) -> CallResult
+    ensures { ShowsSome (IsPinnedOf limits.now start end query.now) result buffer.old buffer.new }
+{
+    let made = pin_query(alloc, limits, start, end, query);
+    show(alloc, made, buffer)
+}
+
+/// Shows whether a query is the same at every time, as JSON (docs/reference/when.md, "Constant queries").
+pub fn is_constant(
+    alloc: Global,
+    limits: &Limits,
+    query: &[u8],
+    buffer: &mut [u8],
+) -> CallResult
+    ensures { ShowsSome (IsTextOf IsConstantText limits.now query.now) result buffer.old buffer.new }
+{
+    let made = constant_query(alloc, limits, query);
     show(alloc, made, buffer)
 }
 

@@ -7,22 +7,26 @@ ghost use Rattle.promql_run.specs.declared.format.Format.TheVariants.{Line};
 ghost use Rattle.promql_c.specs.CallResults.{Shows, ShowsSome};
 ghost use Rattle.promql_span.specs.Targets.{for_check, for_rules};
 ghost use Rattle.promql_c.specs.CallLimits.{limits_of};
-ghost use Rattle.promql_c.specs.Calls.{IsEnforceOf, IsExplainOf, IsFormattedOf, IsPrintOf, IsRenameOf, IsSnippetOf, IsTextOf, IsTokensOf, IsTreePrintOf};
+ghost use Rattle.promql_c.specs.CallTimes.{times_of};
+ghost use Rattle.promql_c.specs.Calls.{IsEnforceOf, IsExplainOf, IsFormattedOf, IsLastReadOf, IsPinnedOf, IsPrintOf, IsRenameOf, IsSnippetOf, IsTextOf, IsTokensOf, IsTreePrintOf, IsWindowsOf};
 ghost use Rattle.promql_c.specs.CollectedTexts.{IsCollectedText};
 ghost use Rattle.promql_c.specs.FindingsText.{IsFindingsText};
 ghost use Rattle.promql_c.specs.Formats.{format_numbered, format_options, mode_numbered, named_numbered};
 ghost use Rattle.promql_c.specs.PartsText.{IsPartsText};
 ghost use Rattle.promql_c.specs.PlacesText.{IsPlacesText};
+ghost use Rattle.promql_c.specs.WindowsText.{IsConstantText};
 ghost use Rattle.promql_lines.specs.declared.mode.Mode.TheVariants.{Plain};
 ghost use Rattle.promql_c.specs.declared.calls.TheConstants.{CALLS_VERSION};
 
 pub use call_limits::CallLimits;
 pub use call_result::CallResult;
+pub use call_times::CallTimes;
 pub use calls::CALLS_VERSION;
 use std::alloc::Global;
 
 mod call_limits;
 mod call_result;
+mod call_times;
 mod calls;
 mod collecting;
 mod differing;
@@ -33,6 +37,7 @@ mod modes;
 mod placing;
 mod printing;
 mod renaming;
+mod timing;
 mod tokens;
 mod tree_printing;
 
@@ -177,6 +182,87 @@ pub extern "C" fn call_tokens(
     ensures { ShowsSome (IsTokensOf (for_rules (limits_of limits.now)) text.now) shown.new buffer.old buffer.new }
 {
     *shown = calls::tokens(alloc, &limits.limits().for_rules(), text, buffer);
+}
+
+/// `calls::windows`.
+#[unsafe(no_mangle)]
+pub extern "C" fn call_windows(
+    alloc: Global,
+    limits: &CallLimits,
+    query: &[u8],
+    times: &CallTimes,
+    buffer: &mut [u8],
+    shown: &mut CallResult,
+)
+    ensures { ShowsSome (IsWindowsOf (for_rules (limits_of limits.now)) (times_of times.now) query.now) shown.new buffer.old buffer.new }
+{
+    *shown = calls::windows(
+        alloc,
+        &limits.limits().for_rules(),
+        query,
+        &times.times(),
+        buffer,
+    );
+}
+
+/// `calls::last_read`.
+#[unsafe(no_mangle)]
+pub extern "C" fn call_last_read(
+    alloc: Global,
+    limits: &CallLimits,
+    query: &[u8],
+    time: i64,
+    times: &CallTimes,
+    buffer: &mut [u8],
+    shown: &mut CallResult,
+)
+    ensures { ShowsSome (IsLastReadOf (for_rules (limits_of limits.now)) (times_of times.now) time query.now) shown.new buffer.old buffer.new }
+{
+    *shown = calls::last_read(
+        alloc,
+        &limits.limits().for_rules(),
+        query,
+        time,
+        &times.times(),
+        buffer,
+    );
+}
+
+/// `calls::pinned`.
+#[unsafe(no_mangle)]
+pub extern "C" fn call_pinned(
+    alloc: Global,
+    limits: &CallLimits,
+    query: &[u8],
+    start: i64,
+    end: i64,
+    buffer: &mut [u8],
+    shown: &mut CallResult,
+)
+    ensures { ShowsSome (IsPinnedOf (for_rules (limits_of limits.now)) start end query.now) shown.new buffer.old buffer.new }
+{
+    *shown = calls::pinned(
+        alloc,
+        &limits.limits().for_rules(),
+        query,
+        start,
+        end,
+        buffer,
+    );
+}
+
+/// `calls::is_constant`.
+#[unsafe(no_mangle)]
+pub extern "C" fn call_is_constant(
+    alloc: Global,
+    limits: &CallLimits,
+    query: &[u8],
+    buffer: &mut [u8],
+    shown: &mut CallResult,
+)
+    ensures { ShowsSome (IsTextOf IsConstantText (for_rules (limits_of limits.now)) query.now) shown.new buffer.old buffer.new }
+{
+    *shown = calls::is_constant(alloc, &limits.limits().for_rules(), query, buffer);
 }
 
 /// `calls::check`.

@@ -1,0 +1,77 @@
+//! When a query reads.
+
+use promql_proved::{Error, EvalTimes, Window, is_constant, last_read, pin, windows};
+use std::time::{Duration, SystemTime, UNIX_EPOCH};
+
+fn at(seconds: u64) -> SystemTime {
+    UNIX_EPOCH + Duration::from_secs(seconds)
+}
+
+/// Three times: 1,000, 1,200 and 1,400 seconds.
+fn closed() -> EvalTimes {
+    EvalTimes { left_open: false, ..EvalTimes::range(at(1000), at(1500), Duration::from_secs(200)) }
+}
+
+fn window(selector: &str, samples: Option<(SystemTime, SystemTime)>) -> Window {
+    Window { selector: selector.to_string(), samples }
+}
+
+#[test]
+fn each_selector_has_a_window() {
+    let found = windows("info(rate(a{b='é'}[5m] @ start() offset -1m)) + max_over_time(b[1m:1h])", closed()).unwrap();
+    let wanted = [
+        window("a{b=\"é\"} @ start() offset -1m", Some((at(760), at(1060)))),
+        window("target_info", Some((at(700), at(1400)))),
+        window("b", None),
+    ];
+    assert_eq!(found, wanted);
+    let (lookback, default_step) = (Duration::from_secs(60), Duration::from_secs(7));
+    let found = windows("a + max_over_time(b[20s:])", EvalTimes { left_open: true, lookback, default_step, ..closed() }).unwrap();
+    let millisecond = Duration::from_millis(1);
+    assert_eq!(found, [window("a", Some((at(940) + millisecond, at(1400)))), window("b", Some((at(927) + millisecond, at(1400))))]);
+    assert!(windows("1", closed()).unwrap().is_empty());
+    let before = windows("a offset 1h", EvalTimes { left_open: false, ..EvalTimes::instant(at(0)) }).unwrap();
+    assert_eq!(before[0].samples, Some((UNIX_EPOCH - Duration::from_secs(3900), UNIX_EPOCH - Duration::from_secs(3600))));
+}
+
+#[test]
+fn what_has_no_window_is_an_error() {
+    let overflow = "a time of `a @ -9223372036854775.808` is below -2^63 or above 2^63 - 1 milliseconds";
+    match windows("b + a @ -9223372036854775.808", closed()) {
+        Err(error @ Error::TimeOverflow(_)) => assert_eq!(error.to_string(), overflow),
+        other => panic!("{other:?}"),
+    }
+    assert!(matches!(windows("1 +", closed()), Err(Error::Rejected(found)) if found.range == (3..3)));
+    let part = Duration::from_micros(1);
+    for times in [
+        EvalTimes { start: at(1) + part, ..closed() },
+        EvalTimes { end: at(0) - part, ..closed() },
+        EvalTimes { end: at(1 << 60), ..closed() },
+        EvalTimes { step: part, ..closed() },
+        EvalTimes { lookback: part, ..closed() },
+        EvalTimes { default_step: Duration::MAX, ..closed() },
+    ] {
+        assert_eq!(windows("a", times), Err(Error::PartOfMillisecond));
+        assert_eq!(last_read("a", at(1), times), Err(Error::PartOfMillisecond));
+    }
+}
+
+#[test]
+fn an_answer_is_final_after_its_last_read() {
+    for (query, last) in [("a", Some(at(1200))), ("a offset -5m + b offset 5m", Some(at(1500))), ("a @ end()", Some(at(1500))), ("1", None)]
+    {
+        assert_eq!(last_read(query, at(1200), closed()), Ok(last), "{query}");
+    }
+    assert_eq!(last_read("a", at(1) + Duration::from_nanos(1), closed()), Err(Error::PartOfMillisecond));
+}
+
+#[test]
+fn times_are_pinned() {
+    let start = UNIX_EPOCH - Duration::from_millis(250);
+    assert_eq!(pin("sum(a@end()) by(b) - c @ start()", start, at(3600)).unwrap(), "sum by (b) (a @ 3600.000) - c @ -0.250");
+    assert_eq!(pin("a > end()", at(0), at(1)), Err(Error::GridFunction));
+    assert_eq!(pin("a", at(0), at(1) + Duration::from_nanos(1)), Err(Error::PartOfMillisecond));
+    assert_eq!(is_constant("a @ end() + 1"), Ok(true));
+    assert_eq!(is_constant("a + 1"), Ok(false));
+    assert!(matches!(is_constant("1 +"), Err(Error::Rejected(_))));
+}
