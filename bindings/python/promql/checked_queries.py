@@ -17,7 +17,7 @@ from .token_texts import tokens_of
 _MOST_EXPLAINED = 65_536
 # The most variables of Grafana that the queries of a file have, and the most characters that are read to try what they may be, but for
 # the first trial of each query; and as how many characters a variable counts.
-_MOST_VARIABLES = 10_000
+_MOST_VARIABLES = 7_500
 _MOST_TRIED, _VARIABLE = 1_000_000, 100
 # Characters of what is kept of texts, and how many are counted for a verdict.
 _MOST_KEPT, _VERDICT = 8_388_608, 1_000
@@ -51,9 +51,14 @@ NO_BOUND = Budget(2**63)
 _QUERY = 4
 
 
+def takes(query: str, budget: Budget) -> bool:
+    """Takes the tokens of a query away from what may be looked at, if they are left. (Of punctuation only an opening parenthesis counts.)"""
+    return budget.takes(_QUERY) and budget.takes(sum(it.kind != "punctuation" or it.text == "(" for it in tokens_of(query)))
+
+
 def take(query: str, budget: Budget) -> None:
-    """Takes the tokens of a query away from what may be looked at, or raises. (Of punctuation only an opening parenthesis counts.)"""
-    if not budget.takes(_QUERY) or not budget.takes(sum(it.kind != "punctuation" or it.text == "(" for it in tokens_of(query))):
+    """The same, or raises."""
+    if not takes(query, budget):
         raise BoundError("the queries of the file have too many tokens together")
 
 
@@ -139,9 +144,9 @@ class QueryChecker:
         self._tried = 0
 
     def anew(self) -> QueryChecker:
-        """Another one with the same bounds, for the file as it is read again."""
+        """Another one with the same bounds, for the file as it is read again, and with what is left for the linter."""
         checker = QueryChecker(self.bounds)
-        checker.exact_yaml = self.exact_yaml
+        checker.exact_yaml, checker.lint_tokens = self.exact_yaml, self.lint_tokens
         return checker
 
     def admits(self, text: str) -> bool:

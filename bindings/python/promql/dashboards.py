@@ -296,7 +296,7 @@ def _substituted(text: PlacedText, at: int, end: int, variables: Mapping[str, st
         name = found[1] or found[2] or found[3]
         if name in variables:
             made.copy(text, at, found.start())
-            made.put_all(variables[name], text.offsets[found.start()])
+            made.put_each(variables[name], [text.offsets[found.start()]] * len(variables[name]))
             at = found.end()
     made.copy(text, at, end)
     return made

@@ -127,10 +127,7 @@ class Skipped(Exception):
 
 
 def read_document(
-    target: Target,
-    is_dashboard: bool,
-    variables: Optional[Mapping[str, str]] = None,
-    bounds: FileBounds = FileBounds(),
+    target: Target, is_dashboard: bool, variables: Optional[Mapping[str, str]] = None, bounds: FileBounds = FileBounds()
 ) -> Document:
     """Reads a file within these bounds, which is a dashboard where its name ends with .json, too.
 

@@ -103,7 +103,7 @@ class Variables:
                 use = (spelling, "word") if in_string else self._use(original, place)
                 made.copy(text, at, start)
                 begin, at = len(made.offsets), end
-                made.put_all(self._texts[use], text.offsets[start])
+                made.put_each(self._texts[use], [text.offsets[start]] * len(self._texts[use]))
                 spans.append(Span(begin, len(made.offsets), place.is_sure, use[1] in _FUNCTIONS))
         made.copy(text, at, len(original))
         return made, spans

@@ -8,7 +8,7 @@ from typing import Any, List, Tuple
 
 from .checked_queries import Document, GivenQuery, QueryChecker
 from .documents import Status, Target, read_document, targets_of
-from .files import STDIN, Source, counted, read_source, write_file
+from .files import STDIN, BoundError, Source, counted, read_source, write_file
 from .jobs import Report, add_arguments, as_bytes, bounds_of, facts_of, work_on
 from .lint.file_findings import FileFinding, FileLinter, fault_of
 from .lint.records import SharedRecords
@@ -82,7 +82,11 @@ def _lint_file(arguments: argparse.Namespace, target: Target) -> Report:
 
 
 def _fix_file(arguments: argparse.Namespace, target: Target, linter: FileLinter, document: Document) -> Report:
-    """Writes the file, or prints it where it is none, and reports what is left."""
+    """Writes the file, or prints it where it is none, and reports what is left. A file is read again, so a large one is not fixed."""
+    most_nodes, nodes_left = document.checker.bounds.max_file_nodes, document.checker.nodes_left
+    if nodes_left < most_nodes - most_nodes * 3 // 5:
+        message = f"a file of more than {most_nodes * 3 // 5:,} nodes of YAML is not fixed (--max-file-nodes)"
+        raise BoundError.of(document.source, 0, message)
     text, count = linter.fixed()
     source = document.source
     if isinstance(document, GivenQuery):

@@ -42,10 +42,10 @@ class PlacedText:
         self._parts.append(text)
         self.offsets.extend(range(offset, offset + len(text)))
 
-    def put_all(self, text: str, offset: int) -> None:
-        """Adds a text whose characters all have the same place."""
+    def put_each(self, text: str, offsets: Iterable[int]) -> None:
+        """Adds a text whose characters are in these places."""
         self._parts.append(text)
-        self.offsets.extend(array("L", [offset]) * len(text))
+        self.offsets.extend(offsets)
 
     def copy(self, other: PlacedText, start: int, end: int) -> None:
         self._parts.append(other.text[start:end])

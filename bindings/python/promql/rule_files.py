@@ -8,7 +8,7 @@ from __future__ import annotations
 from array import array
 from functools import partial
 from importlib import import_module
-from itertools import islice
+from itertools import chain, islice
 from typing import Callable, Dict, Iterator, List, Optional, Sequence, Set, Tuple, Union
 
 from . import limits
@@ -324,7 +324,8 @@ def _children(part: str, node: Node) -> Iterator[Tuple[str, Node]]:
         for key, value in node.value:
             yield "other", key
             name = key.value if key.kind == "scalar" else None
-            yield part if key.is_merge() else _PARTS.get((part, name), part if part == "document" else "other"), value
+            is_merge = name == "<<" and key.is_merge()
+            yield part if is_merge else _PARTS.get((part, name), part if part == "document" else "other"), value
 
 
 def _reached(root: Node) -> Iterator[Tuple[str, Node]]:
@@ -340,9 +341,9 @@ def _reached(root: Node) -> Iterator[Tuple[str, Node]]:
 
 def _same(old_root: Node, new_root: Node, same_query: SameQuery) -> bool:
     """Whether two documents have the same nodes, but for the queries, which are compared by `same_query`."""
-    todo, seen = [("document", old_root, new_root)], set()
+    todo, seen = [(("document", old_root), new_root)], set()
     while todo:
-        part, old, new = todo.pop()
+        (part, old), new = todo.pop()
         if old.kind != new.kind or old.anchor != new.anchor:
             return False
         is_scalar = old.kind == "scalar"
@@ -354,5 +355,5 @@ def _same(old_root: Node, new_root: Node, same_query: SameQuery) -> bool:
             return False
         if not is_scalar and (part, id(old), id(new)) not in seen:
             seen.add((part, id(old), id(new)))
-            todo += [(name, one, other) for (name, one), (_, other) in zip(_children(part, old), _children(part, new))]
+            todo += zip(_children(part, old), new.value if new.kind == "sequence" else chain.from_iterable(new.value))
     return True

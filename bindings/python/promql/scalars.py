@@ -119,7 +119,9 @@ class Mappings:
         return self._answers[place]
 
     def value(self, mapping: Node, key: str) -> Optional[Node]:
-        entry = self.entry(mapping, key)
+        own = self._read.get(id(mapping))
+        # (a file asks so often that a call more for each takes a twentieth of all)
+        entry = own.entries.get(key) if own and not own.merges else self.entry(mapping, key)
         return entry[1] if entry else None
 
     def name(self, mapping: Node, key: str) -> str:
@@ -310,7 +312,8 @@ def flow_text(scalar: Scalar) -> PlacedText:
             text.put(run[0], at)
             at = run.end()
         elif fold := _FOLD.match(source, at, end):
-            _fold(text, [found.start() for found in _BREAK.finditer(source, at, fold.end())])
+            line_feeds = range(at, fold.end()) if not fold[0].strip("\n") else ()
+            _fold(text, line_feeds or [found.start() for found in _BREAK.finditer(source, at, fold.end())])
             at = fold.end()
         elif scalar.style == '"' and source[at] == "\\":
             at = _unescape(text, source, at, end)
@@ -320,16 +323,15 @@ def flow_text(scalar: Scalar) -> PlacedText:
     return text
 
 
-def _fold(text: PlacedText, breaks: List[int]) -> None:
+def _fold(text: PlacedText, breaks: Sequence[int]) -> None:
     """Of line ends in a row the first is left out; one alone is a space."""
     if len(breaks) == 1:
         text.put(" ", breaks[0])
     _keep(text, breaks[1:])
 
 
-def _keep(text: PlacedText, breaks: List[int]) -> None:
-    for offset in breaks:
-        text.put("\n", offset)
+def _keep(text: PlacedText, breaks: Sequence[int]) -> None:
+    text.put_each("\n" * len(breaks), breaks)
 
 
 def _unescape(text: PlacedText, source: str, at: int, end: int) -> int:

@@ -62,8 +62,15 @@ def code_of(query: str) -> List[Token]:
     return [token for token in tokens_of(query) if token.kind != "comment"]
 
 
-def comments_of(query: str) -> List[str]:
-    return [token.text for token in tokens_of(query) if token.kind == "comment"] if "#" in query else []
+def comments_of(query: str) -> Tuple[str, ...]:
+    """The comments of a query that the library reads."""
+    return _comments_of(query) if "#" in query else ()
+
+
+# (few, and without the other tokens, for which see above)
+@lru_cache(maxsize=32)
+def _comments_of(query: str) -> Tuple[str, ...]:
+    return tuple([query[start:end] for kind, start, end in promql._tokens(query) if kind == "comment"])
 
 
 def pattern_operators(query: str) -> List[Token]:

@@ -5,6 +5,7 @@ import json
 
 from dear_queries import DEAR_QUERIES
 from promql.checked_queries import FileBounds
+from promql.lsp.rules import BOUNDS as EDITOR_BOUNDS
 
 SIZE = 1 << 20
 RULES = "groups:\n- name: a\n  rules:\n"
@@ -249,7 +250,11 @@ JSON = {
 }
 
 
-def within(text, count, most=FileBounds().max_file_nodes):
+# The nodes of a file that are looked at, and those of one that the editor reads, and that is fixed.
+BOUNDS = ((FileBounds().max_file_nodes, "the bounds"), (EDITOR_BOUNDS.max_file_nodes, "those of the editor"))
+
+
+def within(text, count, most):
     """As many parts of a text as have so many nodes, which a function counts; or nothing where all have."""
     few = min(100, len(text.parts))
     nodes, more = count(text.with_parts(few)), count(text.with_parts(2 * few))
@@ -273,9 +278,10 @@ def values_of(text):
 
 def dear_files():
     """The names and the texts."""
-    for texts, end, count in ((YAML, ".yml", nodes_of), (JSON, ".json", values_of)):
+    for texts, end, count, bounds in ((YAML, ".yml", nodes_of, BOUNDS), (JSON, ".json", values_of, BOUNDS[:1])):
         for name, text in texts.items():
             yield name + end, str(text)
-            smaller = within(text, count) if isinstance(text, Filled) else None
-            if smaller:
-                yield f"{name}, within the bounds{end}", smaller
+            for most, which in bounds if isinstance(text, Filled) else ():
+                smaller = within(text, count, most)
+                if smaller:
+                    yield f"{name}, within {which}{end}", smaller

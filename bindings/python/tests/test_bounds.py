@@ -16,6 +16,7 @@ from promql.dashboards import Dashboard
 from promql.files import Fault, LineIndex, Source
 from promql.lint import file_findings, fix, fixes, lint
 from promql.lint.file_findings import MOST_FINDINGS
+from promql.lsp import rules as lsp_rules
 from promql.lsp.rules import problems_of
 from promql.rule_files import RuleFile
 
@@ -265,6 +266,16 @@ class LargeFiles(unittest.TestCase):
         for text in ("[" + "a," * 200_000 + "]", "- {}\n" * 150_000, "---\n" * 200_000):
             self.assert_refused("a.yml", text, "more than 50,000 nodes of YAML")
 
+    def test_nodes_of_fixes(self):
+        """A file that is fixed is read again, so it has fewer nodes, by three fifths; without a fix it has all."""
+        text = RULE + "".join(f"  - {{record: a{number}, expr: (b)}}\n" for number in range(3))
+        for most, status in ((34, 2), (39, 0)):
+            ran = self.ran("a.yml", text, "lint", "--fix", f"--max-file-nodes={most}")
+            self.assertEqual((ran.status, "3 queries fixed" in ran.out), (status, not status))
+            said = ":1:1: not looked at: a file of more than 20 nodes of YAML is not fixed (--max-file-nodes)\ngroups:\n^\n"
+            self.assertEqual(ran.err.endswith(said), most == 34)
+        self.assertEqual(self.ran("a.yml", text, "lint", "--max-file-nodes=34").out.count(" P601: "), 3)
+
     def test_texts(self):
         """The nodes of files that are texts are those of the file, too."""
         texts = "".join(f"  a{number}.yml: 'groups: [{{rules: [{{record: a, expr: b}}]}}]'\n" for number in range(20_000))
@@ -274,7 +285,19 @@ class LargeFiles(unittest.TestCase):
 
     def test_nodes_in_the_editor(self):
         rules, problems = problems_of(RULE + "  - {record: a, expr: b}\n" * 20_000)
-        self.assertEqual((rules, [(it.start > 200_000, it.message[:13]) for it in problems]), (None, [(True, "not looked at")]))
+        self.assertEqual((rules, [(it.start > 140_000, it.message[:13]) for it in problems]), (None, [(True, "not looked at")]))
+        self.assertIn("more than 30,000 nodes of YAML", problems[0].message)
+
+    def test_told_by_the_editor(self):
+        """What is in queries is told of so many tokens, and each query counts as ten more."""
+        text = RULE + "".join(f"  - {{record: a, expr: b{number}}}\n" for number in range(6))
+        for most, count in ((65, 5), (66, 6)):
+            with mock.patch.object(lsp_rules, "_MOST_TOKENS", most):
+                rules, problems = problems_of(text)
+            self.assertEqual(sum(len(rule.queries) for rule in rules), count)
+            said = [(it.start, it.message) for it in problems if "not told" in it.message]
+            message = "what is in the queries is not told from here on: those of the file have more than 65 tokens"
+            self.assertEqual(said, [] if most == 66 else [(text.index("b5"), message)])
 
     def test_exact_yaml(self):
         """What libyaml does not read, or not surely so, is read by ruamel.yaml, as far as that goes."""
@@ -297,17 +320,20 @@ class LargeFiles(unittest.TestCase):
         self.assert_refused("a.json", '{"expr": ' + "[" * 101 + "]" * 101 + "}", "nested too deeply")
 
     def test_linted(self):
-        """A query counts by its tokens but those of punctuation, and by four more; one that was looked at in the run counts nothing."""
+        """A query counts by its tokens but those of punctuation, and by four more, and again where its fixes are checked; one that was
+        looked at in the run counts nothing."""
         text = RULE + "".join(f"  - {{record: a, expr: (a{number})}}\n" for number in range(4)) + "  - {record: b, expr: (a0)}\n"
-        for status, count in ((2, 17), (1, 24)):
+        for status, count in ((2, 29), (1, 48)):
             with mock.patch.object(file_findings.LOOKS, "_known", checked_queries.Store()):
                 ran = self.ran("a.yml", text, "lint", f"--max-lint-tokens={count}")
             self.assertEqual((ran.status, ran.out.count(" P601: ")), (status, 5 if status == 1 else 2))
-            self.assertEqual(":6:23: not looked at from here on: the queries of the file have more than 17 tokens" in ran.err, status == 2)
+            self.assertEqual(":6:23: not looked at from here on: the queries of the file have more than 29 tokens" in ran.err, status == 2)
         with mock.patch.object(file_findings.LOOKS, "_known", checked_queries.Store()):
-            ran = self.ran("a.yml", text, "lint", "--fix", "--max-lint-tokens=30")
-        # (each is looked at twice for its fix, as it is and as it is changed)
-        self.assertEqual((ran.status, ran.out.count(" P601: ")), (1, 3))
+            ran = self.ran("a.yml", text, "lint", "--fix", "--max-lint-tokens=34")
+        # (each is read three times for its fix: as it is, to check the fix, and as it is changed; what is left is not looked at then)
+        self.assertEqual((ran.status, "2 queries fixed, no findings" in ran.out), (2, True))
+        self.assertIn(":6:23: not looked at from here on: the queries of the file have more than 34 tokens together (--max-lint-tokens)", ran.err)
+        self.assertEqual(ran.err.count("not looked at"), 1)
         budget = Budget(5)
         self.assertEqual([budget.takes(amount) for amount in (5, 0, 1, 0)], [True, True, False, False])
 
@@ -344,8 +370,8 @@ class LargeFiles(unittest.TestCase):
         self.assertIn("its data source is of the type loki; so are 2,000 more\n", ran.err)
 
     def test_variables(self):
-        text = json.dumps({"targets": [{"expr": f"a{number}[$b]"} for number in range(10_001)]})
-        self.assert_refused("a.json", text, "not looked at: the queries of the file have more than 10,000 variables of Grafana, up to here")
+        text = json.dumps({"targets": [{"expr": f"a{number}[$b]"} for number in range(7_501)]})
+        self.assert_refused("a.json", text, "not looked at: the queries of the file have more than 7,500 variables of Grafana, up to here")
 
     def test_templates(self):
         rules = "".join(f"  - {{alert: a{n}, expr: b, annotations: {{c: '{{{{ print {n} {'1 ' * 40}}}}}'}}}}\n" for n in range(1_200))

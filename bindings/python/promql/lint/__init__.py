@@ -38,6 +38,8 @@ __all__ = [
 _MODULES = (matcher_rules, counter_rules, operator_rules, label_rules, alert_rules, style_rules, target_rules)
 _UNCOMPARED = "its patterns and values are too large together to be compared: P108 and P109 are not looked for in patterns"
 _LONGEST = 500
+# Whether it is to be said what was expected in a query that is rejected, which is read again for it.
+Explains = Callable[[promql.QueryError], bool]
 # Functions that are gone, and what is there for them.
 _GONE = {
     "holt_winters": "it is `double_exponential_smoothing` since Prometheus 3.0",
@@ -75,40 +77,27 @@ def selection_of(select: Iterable[str], ignore: Iterable[str]) -> Selection:
 
 
 def look_at(
-    query: str,
-    selection: Selection,
-    context: RuleContext,
-    is_written: IsWritten = always,
-    has_fixes: bool = True,
-    explains: Callable[[promql.QueryError], bool] = lambda error: True,
+    query: str, selection: Selection, context: RuleContext, is_written: IsWritten = always, explains: Explains = lambda error: True
 ) -> List[Finding]:
-    """The same for a query of a file, of which texts may stand there for variables. To check a fix the query is read again, so it takes
-    less time without fixes. The same goes for saying what was expected in a query that is rejected."""
+    """The same for a query of a file, of which texts may stand there for variables."""
     try:
         tree = promql.parse(query)
     except promql.QueryError as error:
         if not selection.has(REJECTED):
             return []
         return [_rejected(error, error.message if explains(error) else error.reason)]
-    return look_at_tree(query, tree, selection, context, is_written, has_fixes)
+    return look_at_tree(query, tree, selection, context, is_written)
 
 
-def look_at_tree(
-    query: str, tree: Tree, selection: Selection, context: RuleContext, is_written: IsWritten = always, has_fixes: bool = True
-) -> List[Finding]:
+def look_at_tree(query: str, tree: Tree, selection: Selection, context: RuleContext, is_written: IsWritten = always) -> List[Finding]:
     """The same for a query that was read."""
     found = list(found_in(query, tree, selection, context, is_written))
-    right = FixChecker(query, tree).checked([it.fix for it in found]) if has_fixes else [None] * len(found)
+    right = FixChecker(query, tree).checked([it.fix for it in found])
     return sorted((it._replace(fix=fix) for it, fix in zip(found, right)), key=lambda it: it[:3])
 
 
 def found_in(
-    query: str,
-    tree: Tree,
-    selection: Selection,
-    context: RuleContext,
-    is_written: IsWritten = always,
-    ignored: Optional[Ignored] = None,
+    query: str, tree: Tree, selection: Selection, context: RuleContext, is_written: IsWritten = always, ignored: Optional[Ignored] = None
 ) -> Iterator[Finding]:
     """The same, rule by rule, with fixes that are not checked; without what comments of the query silence, or with other codes left out."""
     subject = Subject(query, tree, context, is_written)

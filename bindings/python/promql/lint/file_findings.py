@@ -7,17 +7,17 @@ import json
 import re
 from difflib import SequenceMatcher
 from itertools import accumulate
-from typing import Any, Callable, Dict, FrozenSet, Iterator, List, Mapping, NamedTuple, Optional, Sequence, Set, Tuple
+from typing import Any, Dict, FrozenSet, Iterator, List, Mapping, NamedTuple, Optional, Sequence, Set, Tuple
 
 import promql
 
-from ..checked_queries import Budget, Document, GivenQuery, PlacedSpelling, Store, take
+from ..checked_queries import Budget, Document, GivenQuery, PlacedSpelling, Store, take, takes
 from ..dashboards import Dashboard, JsonString
 from ..files import BLANKS, BoundError, Fault, FileError, Source
 from ..queries import Edit, Query, edited
 from ..rule_files import RuleFile
 from ..scalars import Scalar
-from . import found_in, look_at
+from . import Explains, found_in, look_at
 from .comments import Comment, Ignored, Silences, codes_of, ignored_in, silenced_in
 from .findings import Finding, Fix, Severity, Span, TextEdit, Tree
 from .fixes import MOST_READS, all_fixed, right_of
@@ -38,25 +38,19 @@ class KnownLooks:
         self._known = Store()
 
     def look_at(
-        self,
-        query: str,
-        selection: Selection,
-        context: RuleContext,
-        is_written: IsWritten,
-        has_fixes: bool,
-        explains: Callable[[promql.QueryError], bool],
-        budget: Budget,
+        self, query: str, selection: Selection, context: RuleContext, is_written: IsWritten, explains: Explains, budget: Budget
     ) -> List[Finding]:
         """As `look_at` of the linter does, as far as the budget goes. The changes that a fix means to the tree are not kept."""
         if is_written is not always:
             # (what stands for a variable may be another variable elsewhere)
             take(query, budget)
-            return look_at(query, selection, context, is_written, has_fixes, explains)
-        key = self._key(query, selection, context, has_fixes)
+            return look_at(query, selection, context, is_written, explains)
+        key = self._key(query, selection, context)
         if key not in self._known:
             for text in (query, *context.template_queries):
                 take(text, budget)
-            found = look_at(query, selection, context, is_written, has_fixes, explains)
+            found = look_at(query, selection, context, is_written, explains)
+            _count_fixes(query, found, budget)
             self._keep(key, [it._replace(fix=it.fix and it.fix._replace(changes=())) for it in found])
         known: List[Finding] = self._known[key]
         return known
@@ -64,20 +58,26 @@ class KnownLooks:
     def keep(self, query: str, selection: Selection, context: RuleContext, found: List[Finding]) -> None:
         """Keeps what was found in a query without variables, where no finding has a fix that would be checked."""
         if not any(finding.fix for finding in found):
-            self._keep(self._key(query, selection, context, True), sorted(found, key=lambda it: it[:3]))
+            self._keep(self._key(query, selection, context), sorted(found, key=lambda it: it[:3]))
 
-    def _key(self, query: str, selection: Selection, context: RuleContext, has_fixes: bool) -> Tuple[Any, ...]:
+    def _key(self, query: str, selection: Selection, context: RuleContext) -> Tuple[Any, ...]:
         if context.recorded is not self._recorded:
             if context.recorded != self._recorded:
                 self._known.forget()
             self._recorded = context.recorded
-        return query, selection, has_fixes, context.records.key_of(query), context.twice(query), *context.key
+        return query, selection, context.records.key_of(query), context.twice(query), *context.key
 
     def _keep(self, key: Tuple[Any, ...], found: List[Finding]) -> None:
         self._known.keep(key, found, len(key[0]) + _FINDING * (1 + len(found)))
 
 
 LOOKS = KnownLooks()
+
+
+def _count_fixes(query: str, found: List[Finding], budget: Budget) -> None:
+    """Counts a query again that is read to check fixes."""
+    if any(it.fix for it in found):
+        takes(query, budget)
 
 
 # A part that changed is written whole where it is longer, or where such parts of a file, each times what is there instead, are too large.
@@ -112,18 +112,12 @@ class FileLinter:
     """Looks at the queries of one file."""
 
     def __init__(
-        self,
-        document: Document,
-        selection: Selection,
-        looks: KnownLooks = LOOKS,
-        has_fixes: bool = True,
-        shared: Optional[SharedRecords] = None,
+        self, document: Document, selection: Selection, looks: KnownLooks = LOOKS, shared: Optional[SharedRecords] = None
     ) -> None:
         self._document = document
         self._shared = shared
         self._selection = selection
         self._looks = looks
-        self._has_fixes = has_fixes
         source = document.source
         self._silences = Silences(source) if isinstance(document, RuleFile) else None
         # What is not looked at.
@@ -143,7 +137,7 @@ class FileLinter:
 
     def over(self, document: Document) -> FileLinter:
         """The same that looks at another document."""
-        return FileLinter(document, self._selection, self._looks, self._has_fixes, self._shared)
+        return FileLinter(document, self._selection, self._looks, self._shared)
 
     def _take_rules(self, file: RuleFile) -> None:
         budget = Budget(self._budget.most)
@@ -241,7 +235,7 @@ class FileLinter:
     def _look(self, query: Query, context: RuleContext) -> List[Finding]:
         """What is found in a query for one rule that has it."""
         is_written, explains = self._is_written(query), self._document.checker.explains
-        return self._looks.look_at(query.text, self._selection, context, is_written, self._has_fixes, explains, self._budget)
+        return self._looks.look_at(query.text, self._selection, context, is_written, explains, self._budget)
 
     def _contexts(self, query: Query) -> List[Tuple[RuleContext, Ignored]]:
         """The rules that have a query and differ to the linter, and what comments silence there."""
@@ -350,6 +344,7 @@ class FileLinter:
             for it in (text, *context.template_queries):
                 take(it, self._budget)
             found = list(found_in(text, tree, self._selection, context, is_written))
+            _count_fixes(text, found, self._budget)
             if is_written is always:
                 self._looks.keep(text, self._selection, context, found)
             return [it for it in found if not any(it.code in ignored for _, ignored in contexts)]

@@ -39,21 +39,19 @@ class Labels(NamedTuple):
 
     def kept(self, labels: FrozenSet[str]) -> Labels:
         """Only these."""
-        return self._with(labels - self.lacked(labels), _NONE, lambda label: label in labels)
+        values = frozenset(it for it in self.values if it[0] in labels)
+        return Labels(labels - self.lacked(labels), _NONE, self.sure & labels, self.named & labels, values)
 
     def dropped(self, labels: FrozenSet[str]) -> Labels:
-        only = None if self.only is None else self.only - labels
-        return self._with(only, self.without | labels if only is None else _NONE, lambda label: label not in labels)
+        # (each label with a value is sure)
+        values = self.values if self.sure.isdisjoint(labels) else frozenset(it for it in self.values if it[0] not in labels)
+        rest = self.sure - labels, self.named - labels, values
+        return Labels(None, self.without | labels, *rest) if self.only is None else Labels(self.only - labels, _NONE, *rest)
 
     def added(self, *labels: str) -> Labels:
         """With more, which a series may have or not."""
         only = None if self.only is None else self.only.union(labels)
-        return self._with(only, self.without.difference(labels), lambda label: label not in labels)
-
-    def _with(self, only: Optional[FrozenSet[str]], without: FrozenSet[str], stays: Callable[[str], bool]) -> Labels:
-        """Other labels, of which those that stay are as they were."""
-        sure, named = frozenset(filter(stays, self.sure)), frozenset(filter(stays, self.named))
-        return Labels(only, without, sure, named, frozenset(it for it in self.values if stays(it[0])))
+        return self.dropped(frozenset(labels))._replace(only=only, without=self.without.difference(labels))
 
     def both(self, other: Labels) -> Labels:
         """Those of series that have the same labels in both."""
@@ -127,9 +125,8 @@ class LabelFlow(_Flow[Labels]):
             return _ANY
         equal = {(it["name"], it["value"]) for it in node["matchers"] if it["type"] == "="}
         absent = frozenset(name for name, value in equal if not value)
-        sure = frozenset(it["name"] for it in node["matchers"] if needs_value(it)) - {NAME}
-        values = frozenset(it for it in equal if it[1] and it[0] != NAME)
-        labels = Labels(None, absent, sure - absent, values=values)
+        sure = frozenset(it["name"] for it in node["matchers"] if needs_value(it)) - absent - {NAME}
+        labels = Labels(None, absent, sure, values=frozenset(it for it in equal if it[0] in sure))
         recorded = self._recorded(name_of(node))
         return labels.both(recorded) if recorded else labels
 

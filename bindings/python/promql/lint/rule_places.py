@@ -9,7 +9,7 @@ from typing import Dict, FrozenSet, Iterator, List, NamedTuple, Optional, Set, T
 
 import promql
 
-from ..checked_queries import Budget, take
+from ..checked_queries import Budget, Store, take
 from ..files import BoundError
 from ..rule_checks import DURATION, MILLISECONDS, mappings_in
 from ..rule_documents import Kind
@@ -29,6 +29,8 @@ _LONGEST_DURATION = 100
 # Aliases may put a rule into groups of so many intervals.
 MOST_INTERVALS = 8
 _MOST_LABELS = 50
+# As how many characters a template counts that is kept, beside its own.
+_TEMPLATE = 1_000
 
 
 class RulePlace(NamedTuple):
@@ -86,7 +88,7 @@ class _Reader:
         self._records = records
         # What templates name in labels and annotations, by their node, and what those of a rule show, by both nodes.
         self._named: Dict[int, _Named] = {}
-        self._shown: Dict[Tuple[int, int], FrozenSet[str]] = {}
+        self._shown: Dict[Tuple[int, int], _Named] = {}
         # Where rules are that have too many intervals.
         self._cut: Dict[int, int] = {}
 
@@ -122,44 +124,48 @@ class _Reader:
         query = self._mappings.value(rule, "expr")
         if query and query.is_scalar():
             alert, record = self._mappings.text(rule, "alert"), self._mappings.text(rule, "record")
-            labels = self._template_labels(rule) if alert else frozenset()
-            values, queries = self._values_and_queries(rule) if alert else (frozenset(), ())
+            named = self._named_by_alert(rule) if alert else _Named()
             records, same = self._records.records, self._records.same.get(id(rule))
             circle = records.circle if record in records.circle else frozenset()
-            context = RuleContext(alert, record, interval, labels, recorded, records, circle, same, values, queries)
+            context = RuleContext(alert, record, interval, named.shown, recorded, records, circle, same, named.values, named.queries)
             yield RulePlace(rule.start, _end(rule), query.end, context)
 
-    def _template_labels(self, rule: Node) -> FrozenSet[str]:
-        """The labels that templates show, but for those of which they ask first. Of more than any alert shows the first ones are taken."""
+    def _named_by_alert(self, rule: Node) -> _Named:
+        """What the templates of an alert name: the labels that they show, but for those of which they ask first, the labels with the value in
+        them, and queries. Of more than any alert shows the first ones are taken."""
         owners = [self._mappings.value(rule, key) for key in ("labels", "annotations")]
         place = id(owners[0]), id(owners[1])
         if place not in self._shown:
-            named = [self._named_in(owner) for owner in owners if owner and owner.kind == "mapping"]
-            shown: FrozenSet[str] = frozenset().union(*(it.shown for it in named)).difference(*(it.asked for it in named))
-            self._shown[place] = frozenset(sorted(shown)[:_MOST_LABELS]) if len(shown) > _MOST_LABELS else shown
+            labels, texts = (self._named_in(it) if it and it.kind == "mapping" else _Named() for it in owners)
+            shown = sorted((labels.shown | texts.shown) - labels.asked - texts.asked)[:_MOST_LABELS]
+            queries = (*labels.queries, *texts.queries)[:_MOST_LABELS]
+            self._shown[place] = _Named(frozenset(shown), values=labels.values, queries=queries)
         return self._shown[place]
-
-    def _values_and_queries(self, rule: Node) -> Tuple[FrozenSet[str], Tuple[str, ...]]:
-        """The labels with the value in them, and the queries of templates, of which the first ones are taken as above."""
-        owners = [self._mappings.value(rule, key) for key in ("labels", "annotations")]
-        labels, texts = (self._named_in(it) if it and it.kind == "mapping" else _Named() for it in owners)
-        return labels.values, (*labels.queries, *texts.queries)[:_MOST_LABELS]
 
     def _named_in(self, owner: Node) -> _Named:
         if id(owner) not in self._named:
-            shown: Set[str] = set()
-            asked: Set[str] = set()
-            values: Set[str] = set()
-            queries: Dict[str, None] = {}
-            for key, value in self._mappings.entries(owner):
-                for action in _actions(str(value.value)) if value.is_scalar() else ():
-                    (asked if _asks(action) else shown).update(_LABEL.findall(action))
-                    queries.update(dict.fromkeys(_QUERY.findall(action)))
-                    if _VALUE.search(action) and not _NO_TEXT.match(action):
-                        values.add(str(key.value))
-            texts = tuple(filter(None, map(_text_of, queries)))
-            self._named[id(owner)] = _Named(frozenset(shown), frozenset(asked), frozenset(values), texts)
+            found = [(str(key.value), _named_by(str(value.value))) for key, value in self._mappings.entries(owner) if value.is_scalar()]
+            shown, asked = (frozenset().union(*(it[part] for _, it in found)) for part in (0, 1))
+            texts = tuple(dict.fromkeys(text for _, it in found for text in it.queries))
+            self._named[id(owner)] = _Named(shown, asked, frozenset(key for key, it in found if it.values), texts)
         return self._named[id(owner)]
+
+
+# What templates name, by their texts, of which many are alike; the text itself stands for each that has the value in it.
+_NAMED = Store()
+
+
+def _named_by(template: str) -> _Named:
+    """What a template names."""
+    if template not in _NAMED:
+        actions = list(_actions(template))
+        labels = [(_asks(action), _LABEL.findall(action)) for action in actions]
+        shown, asked = (frozenset(it for is_asked, some in labels if is_asked is wanted for it in some) for wanted in (False, True))
+        has_value = any(_VALUE.search(action) and not _NO_TEXT.match(action) for action in actions)
+        queries = tuple(filter(None, map(_text_of, dict.fromkeys(it for action in actions for it in _QUERY.findall(action)))))
+        _NAMED.keep(template, _Named(shown, asked, frozenset([template][:has_value]), queries), len(template) + _TEMPLATE)
+    named: _Named = _NAMED[template]
+    return named
 
 
 def _text_of(literal: str) -> str:

@@ -2,7 +2,6 @@
 
 from __future__ import annotations
 
-from dataclasses import dataclass, field
 from functools import cached_property
 from typing import Callable, Dict, FrozenSet, Hashable, Iterator, List, Mapping, NamedTuple, Optional, Sequence, Set, Tuple
 
@@ -110,8 +109,7 @@ _LONGEST_SHOWN = 1_000
 MOST_COMPARED = 1_000_000
 
 
-@dataclass(frozen=True)
-class RuleContext:
+class RuleContext(NamedTuple):
     """The rule of a file that has the query."""
 
     # The name of the rule: one of both is there.
@@ -122,7 +120,7 @@ class RuleContext:
     # The labels of the query that the templates of the alert name.
     template_labels: FrozenSet[str] = frozenset()
     # The metrics that this file records in groups with an interval, and the interval.
-    recorded: Mapping[str, int] = field(default_factory=dict)
+    recorded: Mapping[str, int] = {}
     # The same with their labels; those that are recorded in a circle with that of the rule; a query before it that records the same.
     records: Records = NO_RECORDS
     circle: FrozenSet[str] = frozenset()
@@ -163,13 +161,7 @@ class SeenMatcher(NamedTuple):
 class Subject:
     """A query, and what is known of it."""
 
-    def __init__(
-        self,
-        text: str,
-        tree: Tree,
-        context: Optional[RuleContext] = None,
-        is_written: IsWritten = always,
-    ) -> None:
+    def __init__(self, text: str, tree: Tree, context: Optional[RuleContext] = None, is_written: IsWritten = always) -> None:
         self.text = text
         self.tree = tree
         self.context = context or RuleContext()

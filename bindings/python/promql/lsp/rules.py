@@ -7,7 +7,7 @@ from bisect import bisect_right
 from functools import lru_cache
 from typing import Iterable, Iterator, List, NamedTuple, Optional, Sequence, Tuple, Union
 
-from ..checked_queries import Budget, QueryChecker
+from ..checked_queries import Budget, FileBounds, QueryChecker
 from ..dashboards import Dashboard, may_have_queries
 from ..documents import GROUPS, document_of
 from ..files import Fault, FileError, Source
@@ -24,8 +24,10 @@ from .semantic import Role, roles_of
 from .settings import Settings
 
 NAME = "document"
-# Of a rule, and of the queries of a file.
-_MOST_NODES, _MOST_TOKENS = 10_000, 100_000
+# Of a rule, and of the queries of a file, each of which costs beside its tokens as much as so many.
+_MOST_NODES, _MOST_TOKENS, _QUERY = 10_000, 60_000, 10
+# A rule file is read to tell more of it than a report has, so a larger one is not looked at.
+BOUNDS = FileBounds(max_file_nodes=30_000)
 # Lines that are longer are not read by themselves.
 _LONGEST_LINES = 16_384
 # Of longer queries nothing is kept.
@@ -33,12 +35,12 @@ _LONGEST_KEPT = 400
 _LINE_BEGINS = re.compile(r"\r\n|\r|\n")
 
 
-# The names of a query, its roles and folds, and how many tokens it has.
-LookedAt = Tuple[Names, Tuple[Role, ...], List[Tuple[int, int]], int]
+# The names of a query, its roles and folds.
+LookedAt = Tuple[Names, Tuple[Role, ...], List[Tuple[int, int]]]
 
 
 def _look_at(text: str) -> LookedAt:
-    return names_of(text), roles_of(text), folds_of(text), len(tokens_of(text))
+    return names_of(text), roles_of(text), folds_of(text)
 
 
 _looked_at = lru_cache(maxsize=2_048)(_look_at)
@@ -55,7 +57,7 @@ class PlacedQuery:
     def __init__(self, text: str, offsets: Sequence[int], variables: Optional[Variables] = None) -> None:
         self.text = text
         self.variables = variables
-        self.names, self.roles, self.folds, _ = looked_at(text)
+        self.names, self.roles, self.folds = looked_at(text)
         if variables:
             self.names = names_with(self.names, lambda name: self.shown(name) == name)
         # Whether its characters are beside each other on one line.
@@ -128,7 +130,7 @@ class Rule(NamedTuple):
 
 
 def read_file(text: str, is_json: bool = False) -> Union[Dashboard, RuleFile]:
-    return document_of(Source(NAME, text, ""), False, is_json, None, QueryChecker())
+    return document_of(Source(NAME, text, ""), False, is_json, None, QueryChecker(FileBounds() if is_json else BOUNDS))
 
 
 # (a text is laid out that was read before)
@@ -137,7 +139,7 @@ file_of = lru_cache(maxsize=1)(read_file)
 
 def rules_of(file: Union[Dashboard, RuleFile]) -> List[Rule]:
     text, budget = file.source.text, Budget(_MOST_TOKENS)
-    admitted = (query for query in _admitted(file) if budget.takes(0) and budget.takes(looked_at(query.text)[3]))
+    admitted = (query for query in _admitted(file) if budget.takes(_QUERY) and budget.takes(len(tokens_of(query.text))))
     placed = (PlacedQuery(query.text, query.offsets, query.variables) for query in admitted)
     queries = sorted(placed, key=lambda query: query.start)
     if isinstance(file, Dashboard):
