@@ -6,6 +6,7 @@ import threading
 import time
 
 from command_line import run
+from promql.lint.records import RecordedRule, Records
 from rule_verdicts import GROUP
 from test_rule_files import Folder
 
@@ -103,6 +104,21 @@ class Across(Folder):
         ran = run("lint", "--fix", self.folder)
         self.assertIn('job:x:sum{job=\\"x\\"}', path.read_text())
         self.assertEqual((ran.status, ran.out.count("P703")), (1, 1))
+
+    def test_keys(self):
+        """A query is looked at again where a rule changed that records what it reads, or what that reads, and for no other change."""
+
+        def key(query, rules, **changed):
+            return Records(RecordedRule(name, text) for name, text in {**rules, **changed}.items()).key_of(query)
+
+        rules = {"a": "b + c", "b": "d", "c": "sum(x)", "d": "c", "e": "x", "f": "g", "g": "f", "h": "f"}
+        for query, reached in (("a > 1", "abcd"), ("c / b", "bcd"), ("e", "e"), ("h", "abcdefgh"), ("g", "abcdefgh")):
+            for name, text in rules.items():
+                is_other = key(query, rules, **{name: f"{text} + 1"}) != key(query, rules)
+                self.assertEqual(is_other, name in reached, (query, name))
+        self.assertEqual([key("x", rules), key("up", {})], [None, None])
+        # (the name of any rule may be like one that is not recorded, and any may be in a circle)
+        self.assertNotEqual(key("a:b:sum", {"a:b:rate": "x"}), key("a:b:sum", {"a:b:rate": "x", "c": "x"}))
 
     def test_dear(self):
         """Rules that record what others do are looked at once, and not with each of these, up to the bound of tokens."""

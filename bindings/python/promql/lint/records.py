@@ -4,7 +4,7 @@ from __future__ import annotations
 
 import re
 from contextlib import suppress
-from typing import Callable, Dict, FrozenSet, Iterable, List, NamedTuple, Optional, Sequence, Set, Tuple
+from typing import Callable, Collection, Dict, FrozenSet, Iterable, Iterator, List, NamedTuple, Optional, Sequence, Set, Tuple
 
 import promql
 
@@ -49,6 +49,8 @@ class Records:
             self._reads[name] = self._named_by(name) & self._rules.keys()
         self.circle = _in_circles(self._reads)
         self._found: Dict[str, Optional[Labels]] = dict.fromkeys(self.circle)
+        # What tells the rules of a metric, with those that these read, from other ones.
+        self._hashes = dict.fromkeys(self.circle, self._hash)
         # Of the queries that were read.
         self._known: Dict[str, Labels] = {}
 
@@ -63,23 +65,31 @@ class Records:
 
     def key_of(self, query: str) -> Optional[int]:
         """What tells these metrics from those of another file, where a query may read one of them."""
-        names = set(_WORD.findall(query)) if self._rules else ()
+        names = set(_WORD.findall(query)) if self._rules else set()
         # (a name without a colon is none that a rule should record)
-        is_near = not self._rules.keys().isdisjoint(names) or any(":" in name and self.why_not(name) for name in names)
-        return self._hash if is_near or names and "\\" in query else None
+        if any(":" in name and self.why_not(name) for name in names) or names and "\\" in query:
+            return self._hash
+        read = sorted(names & self._rules.keys())
+        for it in (it for name in read for it in self._in_order(name, self._hashes)):
+            self._hashes[it] = hash((*self._rules[it], *map(self._hashes.get, sorted(self._reads[it]))))
+        return hash(tuple(map(self._hashes.get, read))) if read else None
 
     def labels_of(self, name: str) -> Optional[Labels]:
         """The labels of the series of a metric, where a rule of the file records it, and they can be told."""
+        for it in self._in_order(name, self._found):
+            self._found[it] = self._read(self._rules[it])
+        return self._found.get(name)
+
+    def _in_order(self, name: str, done: Collection[str]) -> Iterator[str]:
+        """A metric that is recorded, after those that its rules read, each after what its own rules read; but for those that are done."""
         todo = [name] if name in self._rules else []
         while todo:
-            # (what one rule reads of the others is looked at before it)
             first = todo[-1]
-            below = [it for it in self._reads[first] if it not in self._found] if first not in self._found else []
+            below = [it for it in self._reads[first] if it not in done] if first not in done else []
             todo += below
             if not below:
                 todo.pop()
-                self._found[first] = self._found[first] if first in self._found else self._read(self._rules[first])
-        return self._found.get(name)
+                yield from [first] if first not in done else ()
 
     def _read(self, rules: List[RecordedRule]) -> Optional[Labels]:
         found: Optional[Labels] = None

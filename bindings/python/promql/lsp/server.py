@@ -26,7 +26,7 @@ from .settings import Settings, path_of
 from .work import FORMAT, READ, Done, Helper, Job
 
 # A rule file is read again when nothing was written in it for so many seconds.
-PAUSE = 0.1
+PAUSE = 0.08
 # A request about a text that is not read yet waits so many seconds for that.
 PATIENCE = 2.0
 # One for which a Prometheus is asked waits so many seconds for that.
