@@ -27,7 +27,7 @@ _SIZE = re.compile(r"patterns are too large: (\d+),", re.ASCII)
 class FileBounds(NamedTuple):
     """What is looked at of a file at most (docs/guide/security.md, "What a file may cost"), by the names of the options that say it."""
 
-    max_file_patterns: int = 40_000
+    max_file_patterns: int = 20_000
     max_file_nodes: int = 50_000
     max_lint_tokens: int = 25_000
     max_exact_yaml: int = 200_000
@@ -52,8 +52,9 @@ _QUERY = 4
 
 
 def takes(query: str, budget: Budget) -> bool:
-    """Takes the tokens of a query away from what may be looked at, if they are left. (Of punctuation only an opening parenthesis counts.)"""
-    return budget.takes(_QUERY) and budget.takes(sum(it.kind != "punctuation" or it.text == "(" for it in tokens_of(query)))
+    """Takes the tokens of a query, but for signs other than `(`, and a quarter of its patterns from what may be looked at, if it is left."""
+    tokens = (it.kind != "punctuation" or it.text == "(" for it in tokens_of(query))
+    return budget.takes(_QUERY) and budget.takes(pattern_size(query) // 4 + sum(tokens))
 
 
 def take(query: str, budget: Budget) -> None:

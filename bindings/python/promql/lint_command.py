@@ -84,8 +84,8 @@ def _lint_file(arguments: argparse.Namespace, target: Target) -> Report:
 def _fix_file(arguments: argparse.Namespace, target: Target, linter: FileLinter, document: Document) -> Report:
     """Writes the file, or prints it where it is none, and reports what is left. A file is read again, so a large one is not fixed."""
     most_nodes, nodes_left = document.checker.bounds.max_file_nodes, document.checker.nodes_left
-    if nodes_left < most_nodes - most_nodes * 3 // 5:
-        message = f"a file of more than {most_nodes * 3 // 5:,} nodes of YAML is not fixed (--max-file-nodes)"
+    if nodes_left < most_nodes - most_nodes * 7 // 10:
+        message = f"a file of more than {most_nodes * 7 // 10:,} nodes of YAML is not fixed (--max-file-nodes)"
         raise BoundError.of(document.source, 0, message)
     text, count = linter.fixed()
     source = document.source

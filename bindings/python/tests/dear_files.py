@@ -142,6 +142,9 @@ YAML = {
     "rejected long queries": rules(lambda n: "  - {record: a, expr: 'f(" + "a+a," * 8_000 + f"a)+ + {n}'}}\n"),
     "long queries of errors": rules(lambda n: "  - {record: a, expr: '" + "$" * 32_000 + f"{n}'}}\n"),
     "dear patterns": RULES + "".join("  - {record: a, expr: '{" + ",".join(f'l{i}=~`(?i)\\pL`' for i in range(300)) + f"}} + {n}'}}\n" for n in range(50)),
+    "dear patterns and fixes": rules(
+        lambda n: f"  - {{record: a{n}, expr: '{{" + ",".join(f"l{i}=~`(?i)\\pL{n}x{i}`" for i in range(30)) + f"}} + (a) + {n}'}}\n"
+    ),
     "small patterns": rules(lambda n: f"  - {{record: a, expr: '{{a=~\"b{n}.+\"}}'}}\n"),
     # YAML
     "texts": filled(lambda n: "a", "[", "]", between=","),

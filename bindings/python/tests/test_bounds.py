@@ -55,6 +55,13 @@ class LongQueries(unittest.TestCase):
                 fixed = fix(DEAR_QUERIES[name])
                 self.assertEqual([it.code for it in lint(fixed) if it.fix], [])
 
+    def test_patterns(self):
+        """Patterns of a query are compiled as often as it is read: four times, and once for its fixes."""
+        for query, count in (('{a=~"b.+"} + (c)', 5), ('{a=~"b.+"} + c', 2)):
+            with mock.patch.object(promql, "_caller", wraps=promql._caller) as caller:
+                lint(query)
+            self.assertEqual(sum(call[1][:1] == (query,) or call[1][:1] == ('{a=~"b.+"} + c',) for call in caller.mock_calls if call[0] != "tokens"), count)
+
     def test_wrong_fixes(self):
         """Fixes that are wrong are found by halves, and the others are kept."""
         query = "+".join(["(a)"] * 100)
@@ -267,14 +274,14 @@ class LargeFiles(unittest.TestCase):
             self.assert_refused("a.yml", text, "more than 50,000 nodes of YAML")
 
     def test_nodes_of_fixes(self):
-        """A file that is fixed is read again, so it has fewer nodes, by three fifths; without a fix it has all."""
+        """A file that is fixed is read again, so it has fewer nodes, by seven tenths; without a fix it has all."""
         text = RULE + "".join(f"  - {{record: a{number}, expr: (b)}}\n" for number in range(3))
-        for most, status in ((34, 2), (39, 0)):
+        for most, status in ((29, 2), (33, 0)):
             ran = self.ran("a.yml", text, "lint", "--fix", f"--max-file-nodes={most}")
             self.assertEqual((ran.status, "3 queries fixed" in ran.out), (status, not status))
             said = ":1:1: not looked at: a file of more than 20 nodes of YAML is not fixed (--max-file-nodes)\ngroups:\n^\n"
-            self.assertEqual(ran.err.endswith(said), most == 34)
-        self.assertEqual(self.ran("a.yml", text, "lint", "--max-file-nodes=34").out.count(" P601: "), 3)
+            self.assertEqual(ran.err.endswith(said), most == 29)
+        self.assertEqual(self.ran("a.yml", text, "lint", "--max-file-nodes=29").out.count(" P601: "), 3)
 
     def test_texts(self):
         """The nodes of files that are texts are those of the file, too."""
@@ -286,7 +293,7 @@ class LargeFiles(unittest.TestCase):
     def test_nodes_in_the_editor(self):
         rules, problems = problems_of(RULE + "  - {record: a, expr: b}\n" * 20_000)
         self.assertEqual((rules, [(it.start > 140_000, it.message[:13]) for it in problems]), (None, [(True, "not looked at")]))
-        self.assertIn("more than 30,000 nodes of YAML", problems[0].message)
+        self.assertIn("more than 35,000 nodes of YAML", problems[0].message)
 
     def test_told_by_the_editor(self):
         """What is in queries is told of so many tokens, and each query counts as ten more."""
@@ -334,6 +341,9 @@ class LargeFiles(unittest.TestCase):
         self.assertEqual((ran.status, "2 queries fixed, no findings" in ran.out), (2, True))
         self.assertIn(":6:23: not looked at from here on: the queries of the file have more than 34 tokens together (--max-lint-tokens)", ran.err)
         self.assertEqual(ran.err.count("not looked at"), 1)
+        query = 'up{a=~"(b|c){200}"} + (a)'
+        for most, is_left in ((11 + pattern_size(query) // 4, True), (10 + pattern_size(query) // 4, False)):
+            self.assertEqual(checked_queries.takes(query, Budget(most)), is_left)
         budget = Budget(5)
         self.assertEqual([budget.takes(amount) for amount in (5, 0, 1, 0)], [True, True, False, False])
 

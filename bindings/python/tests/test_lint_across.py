@@ -116,7 +116,9 @@ class Across(Folder):
             for name, text in rules.items():
                 is_other = key(query, rules, **{name: f"{text} + 1"}) != key(query, rules)
                 self.assertEqual(is_other, name in reached, (query, name))
-        self.assertEqual([key("x", rules), key("up", {})], [None, None])
+        self.assertEqual([key("x", rules), key("up", {}), key(r'x{y=~"z\\.\\w"}', rules)], [None] * 3)
+        # (an escape may be a letter of a name)
+        self.assertNotEqual(key(r'{"\x61"}', rules), None)
         # (the name of any rule may be like one that is not recorded, and any may be in a circle)
         self.assertNotEqual(key("a:b:sum", {"a:b:rate": "x"}), key("a:b:sum", {"a:b:rate": "x", "c": "x"}))
 

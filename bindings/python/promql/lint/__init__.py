@@ -59,9 +59,7 @@ def lint(
     return look_at(query, selection_of(select, ignore), context or RuleContext())
 
 
-def fix(
-    query: str, *, select: Iterable[str] = (), ignore: Iterable[str] = (), context: Optional[RuleContext] = None
-) -> str:
+def fix(query: str, *, select: Iterable[str] = (), ignore: Iterable[str] = (), context: Optional[RuleContext] = None) -> str:
     """The query with the fixes of all findings that have one. Each was checked: the changed query is read again, and has the tree that the
     fix intends, and the comments."""
     selection = selection_of(select, ignore)

@@ -16,6 +16,8 @@ from .flow import LabelFlow, Labels
 
 # What may be the name of a metric, in whatever it is.
 _WORD = re.compile(r"[A-Za-z_:][\w:]*", re.ASCII)
+# An escape that may stand for a character of a name.
+_ESCAPE = re.compile(r"\\[xuU0-7]")
 # Labels of a metric are followed where there are no more.
 _MOST_LABELS = 200
 
@@ -67,7 +69,7 @@ class Records:
         """What tells these metrics from those of another file, where a query may read one of them."""
         names = set(_WORD.findall(query)) if self._rules else set()
         # (a name without a colon is none that a rule should record)
-        if any(":" in name and self.why_not(name) for name in names) or names and "\\" in query:
+        if any(":" in name and self.why_not(name) for name in names) or names and _ESCAPE.search(query):
             return self._hash
         read = sorted(names & self._rules.keys())
         for it in (it for name in read for it in self._in_order(name, self._hashes)):

@@ -29,8 +29,6 @@ _LONGEST_DURATION = 100
 # Aliases may put a rule into groups of so many intervals.
 MOST_INTERVALS = 8
 _MOST_LABELS = 50
-# As how many characters a template counts that is kept, beside its own.
-_TEMPLATE = 1_000
 
 
 class RulePlace(NamedTuple):
@@ -163,7 +161,7 @@ def _named_by(template: str) -> _Named:
         shown, asked = (frozenset(it for is_asked, some in labels if is_asked is wanted for it in some) for wanted in (False, True))
         has_value = any(_VALUE.search(action) and not _NO_TEXT.match(action) for action in actions)
         queries = tuple(filter(None, map(_text_of, dict.fromkeys(it for action in actions for it in _QUERY.findall(action)))))
-        _NAMED.keep(template, _Named(shown, asked, frozenset([template][:has_value]), queries), len(template) + _TEMPLATE)
+        _NAMED.keep(template, _Named(shown, asked, frozenset([template][:has_value]), queries), len(template) + 1_000)
     named: _Named = _NAMED[template]
     return named
 

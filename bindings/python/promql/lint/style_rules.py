@@ -10,7 +10,7 @@ from .findings import Fix, Remark, Severity, Span, TextEdit, Tree
 from .subject import Subject
 from .table import rule
 
-_WORD = re.compile(r"[\w:]")
+_WORD, _EMPTY = re.compile(r"[\w:]"), re.compile(r"\{\s*\}")
 # What is one thing without parentheses.
 _PRIMARY = ("parenExpr", "numberLiteral", "stringLiteral", "vectorSelector", "matrixSelector", "call", "aggregation", "subquery")
 
@@ -65,7 +65,7 @@ def _why_needless(subject: Subject, node: Tree) -> Optional[str]:
 @rule("P602", "empty-braces", Severity.INFO, needs="{")
 def empty_braces(subject: Subject) -> Iterator[Remark]:
     """Braces without a matcher."""
-    for node in subject.selectors if "{" in subject.text else ():
+    for node in subject.selectors if _EMPTY.search(subject.text) else ():
         if node["name"] is not None and not node["matchers"] and "or_matchers" not in node:
             braces = subject.place(node).braces
             if braces and subject.text[braces.start + 1 : braces.end - 1].strip() == "":

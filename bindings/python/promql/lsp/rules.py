@@ -27,7 +27,7 @@ NAME = "document"
 # Of a rule, and of the queries of a file, each of which costs beside its tokens as much as so many.
 _MOST_NODES, _MOST_TOKENS, _QUERY = 10_000, 60_000, 10
 # A rule file is read to tell more of it than a report has, so a larger one is not looked at.
-BOUNDS = FileBounds(max_file_nodes=30_000)
+BOUNDS = FileBounds(max_file_nodes=35_000)
 # Lines that are longer are not read by themselves.
 _LONGEST_LINES = 16_384
 # Of longer queries nothing is kept.
