@@ -185,12 +185,7 @@ pub fn pinned(
 }
 
 /// Shows whether a query is the same at every time, as JSON (docs/reference/when.md, "Constant queries").
-pub fn is_constant(
-    alloc: Global,
-    limits: &Limits,
-    query: &[u8],
-    buffer: &mut [u8],
-) -> CallResult
+pub fn is_constant(alloc: Global, limits: &Limits, query: &[u8], buffer: &mut [u8]) -> CallResult
     ensures { ShowsSome (IsTextOf IsConstantText limits.now query.now) result buffer.old buffer.new }
 {
     let made = constant_query(alloc, limits, query);

@@ -33,10 +33,7 @@ use serde_json::{Value, json};
 use std::alloc::{AllocError, Global};
 
 /// A selector without its range, as it prints.
-fn selector_text(
-    alloc: Global,
-    selector: Option<&VectorSelector>,
-) -> Result<String, AllocError>
+fn selector_text(alloc: Global, selector: Option<&VectorSelector>) -> Result<String, AllocError>
     ensures { IfOk result (λ s. string_bytes s ≡ text (vector (option_map_or (λ v. selector_of v.now) selector.entry target_info))) }
 {
     match selector {
