@@ -703,6 +703,7 @@ test_prometheus() {
     add 'the linter before a Prometheus' in_python "$here/python" "$root/bench/meaning/lint.py" 500
     add 'places of errors before a Prometheus' in_python "$here/python" "$root/bench/places/prometheus.py"
     add 'classes of meanings before a Prometheus' in_python "$here/python" "$root/bench/targets/meanings.py" --made 300 --changed 200
+    add 'when queries read, before a Prometheus' in_python "$here/python" "$root/bench/when/compare.py" --count 300
     add 'kinds of verdicts before a Prometheus' in_python "$here/python" "$root/bench/targets/verdicts.py" --count 5000
     if python=$(python_with_yaml); then
         python=$python add 'selectors and metrics before a Prometheus' in_python "$here/python" "$here/live.py"

@@ -11,7 +11,6 @@ import os
 import pathlib
 import random
 import re
-import subprocess
 import sys
 import tempfile
 import urllib.parse
@@ -20,6 +19,7 @@ from typing import Counter, Dict, Iterator, List, NamedTuple, Optional, Tuple
 TOP = pathlib.Path(__file__).resolve().parent.parent.parent
 sys.path[:0] = [str(TOP / "bench" / "meaning"), str(TOP / "bin"), str(TOP / "bindings" / "python")]
 import compare as meaning  # noqa: E402
+import promql  # noqa: E402
 from checks import print_counts  # noqa: E402
 
 # Samples of three hours, one each 20 seconds, some of them a little later.
@@ -105,20 +105,22 @@ def is_at_fault(query: str) -> bool:
 # ---- what is told
 
 
-def told(program: List[str], queries: List[Asked]) -> Iterator[Optional[Told]]:
-    """What the program tells of each query: bench/when/windows.rt.txt. Nothing of one that the rules do not accept."""
-    lines = "".join(f"{it.start}\t{it.end}\t{it.step}\t{it.query}\n" for it in queries)
-    done = subprocess.run(program, input=lines, capture_output=True, text=True, check=True)
-    for line in done.stdout.splitlines():
-        windows, pinned, last = line.split("\t")
-        yield None if windows == "?" else Told([window(it) for it in windows.split()], pinned, int(last) if last else None)
-
-
-def window(text: str) -> Optional[Tuple[int, int]]:
-    if text == "-":
+def told(asked: Asked) -> Optional[Told]:
+    """What the library tells of a query, by the windows of Prometheus 2. Nothing of one that the rules do not accept."""
+    try:
+        windows = promql.windows(asked.query, asked.start, asked.end, asked.step, left_open=False)
+    except promql.QueryError:
         return None
-    first, last = text.split("..")
-    return int(first), int(last)
+    return Told(
+        [None if it.first is None or it.last is None else (it.first, it.last) for it in windows],
+        promql.pinned(asked.query, asked.start, asked.end),
+        promql.last_read(asked.query, last_time(asked), asked.start, asked.end, left_open=False),
+    )
+
+
+def last_time(asked: Asked) -> int:
+    """The last time of a query."""
+    return asked.start if asked.step == 0 else asked.start + (asked.end - asked.start) // asked.step * asked.step
 
 
 # ---- stores
@@ -145,6 +147,10 @@ def series_of(rng: random.Random, name: str) -> Iterator[Series]:
             if rng.random() < 0.97:
                 samples.append(((BEGIN + STEP * number) * 1000 + rng.choice((0, 0, 0, 1, 250)), value))
         yield Series(name, {"job": job}, samples)
+
+
+def until(series: Series, last: Optional[int]) -> Series:
+    return within(series, None if last is None else (0, last))
 
 
 def within(series: Series, window: Optional[Tuple[int, int]]) -> Series:
@@ -192,7 +198,7 @@ def is_settled(server: meaning.Prometheus, asked: Asked) -> bool:
 
 
 def compare(servers: List[meaning.Prometheus], asked: Asked, answer: Told, counts: Counter[str], failed: List[Tuple]) -> None:
-    everything, windowed = (evaluate(it, asked) for it in servers)
+    everything, windowed = (evaluate(it, asked) for it in servers[:2])
     counts["queries"] += 1
     if everything[0] == "error":
         counts["rejected by the server"] += 1
@@ -204,29 +210,40 @@ def compare(servers: List[meaning.Prometheus], asked: Asked, answer: Told, count
         found["pinned, in parts"] = in_parts(servers[0], asked, answer.pinned)
         counts["that differ in parts where they are not pinned"] += in_parts(servers[0], asked, asked.query) != everything
     for law, other in found.items():
-        if other != everything and not all(is_settled(it, asked) for it in servers):
-            counts["left out, since the server has more than one answer"] += 1
-            continue
-        counts[law] += 1
-        if other != everything:
-            failed.append((law, asked, answer, everything, other))
+        tell(law, servers[:2], asked, everything, other, counts, failed)
+    # (the pinned query, since the times of `@ start()` and `@ end()` are those of the whole query)
+    at_last = Asked(answer.pinned, last_time(asked), last_time(asked), 0, asked.names)
+    now, later = (evaluate(servers[it], at_last) for it in (2, 0))
+    tell("final", [servers[0], servers[2]], at_last, later, now, counts, failed)
+
+
+def tell(
+    law: str, servers: List[meaning.Prometheus], asked: Asked, wanted: Tuple[str, str], got: Tuple[str, str], counts: Counter[str],
+    failed: List[Tuple],
+) -> None:
+    """Counts a comparison, and keeps it where it fails."""
+    if got != wanted and not all(is_settled(it, asked) for it in servers):
+        counts["left out, since the server has more than one answer"] += 1
+        return
+    counts[law] += 1
+    if got != wanted:
+        failed.append((law, asked, wanted, got))
 
 
 def main() -> int:
     parser = argparse.ArgumentParser(description=__doc__)
-    parser.add_argument("program", help="what bench/when/windows.rt.txt was built as")
     parser.add_argument("--count", type=int, default=2000, help="how many queries are made at random (%(default)s)")
     parser.add_argument("--seed", type=int, default=1)
     arguments = parser.parse_args()
     rng = random.Random(arguments.seed)
     maker = Maker(rng)
     queries = [maker.asked() for _ in range(arguments.count)]
-    answers = list(told([arguments.program], queries))
+    answers = [told(it) for it in queries]
     counts: Counter[str] = collections.Counter()
     counts["not accepted here"] = sum(it is None for it in answers)
     asked_and_told = [(asked, answer) for asked, answer in zip(queries, answers) if answer]
     failed: List[Tuple] = []
-    whole, cut = [], []
+    whole, cut, known = [], [], []
     for asked, answer in asked_and_told:
         if len(asked.names) != len(answer.windows):
             raise SystemExit(f"{asked.query}: {len(answer.windows)} windows")
@@ -234,19 +251,20 @@ def main() -> int:
             for series in series_of(rng, name):
                 whole.append(series)
                 cut.append(within(series, span))
+                known.append(until(series, answer.last))
     counts["samples"] = sum(len(it.timed) for it in whole)
     counts["samples within windows"] = sum(len(it.timed) for it in cut)
     with tempfile.TemporaryDirectory() as folder, contextlib.ExitStack() as stack:
         servers = []
-        for name, store in (("whole", whole), ("cut", cut)):
+        for name, store in (("whole", whole), ("cut", cut), ("known", known)):
             servers.append(meaning.Prometheus(pathlib.Path(folder, name), store))
             stack.callback(servers[-1].end)
         for asked, answer in asked_and_told:
             compare(servers, asked, answer, counts, failed)
     print(", ".join(f"{key} {value}" for key, value in counts.items()))
-    for law, asked, answer, everything, found in failed:
-        print(f"FAILED {law}: {asked}\n    {answer}\n    {str(everything)[:300]}\n    {str(found)[:300]}")
-    passed = sum(counts[law] for law in ("within windows", "pinned", "pinned, in parts"))
+    for law, asked, wanted, got in failed:
+        print(f"FAILED {law}: {asked}\n    {str(wanted)[:300]}\n    {str(got)[:300]}")
+    passed = sum(counts[law] for law in ("within windows", "pinned", "pinned, in parts", "final"))
     return print_counts(passed - len(failed), len(failed))
 
 
