@@ -5,7 +5,7 @@ from __future__ import annotations
 import re
 import sys
 from contextlib import contextmanager
-from typing import Any, Dict, Iterable, Iterator, List, NamedTuple, Optional, Sequence, Set, Tuple
+from typing import Any, Callable, Dict, Iterable, Iterator, List, NamedTuple, Optional, Sequence, Set, Tuple
 
 import promql
 
@@ -101,12 +101,19 @@ class Store(Dict[Any, Any]):
         self[key] = answer
         return answer
 
+    def made(self, what: Any, query: str, make: Callable[[str], str]) -> str:
+        """What is made of a query, once as long as it is kept."""
+        if (what, query) not in self:
+            text = make(query)
+            self.keep((what, query), text, len(query) + len(text) + _VERDICT)
+        return str(self[what, query])
+
     def forget(self) -> None:
         self.clear()
         self._size = 0
 
 
-# Why texts are rejected, for those that were checked lately. They are forgotten where the library has other limits.
+# Why texts are rejected that were checked lately, and what was made of texts. They are forgotten where the library has other limits.
 VERDICTS = Store()
 
 

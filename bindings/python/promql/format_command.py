@@ -14,7 +14,7 @@ from typing import Any, Callable, ContextManager, Iterator, List, Optional, Sequ
 
 import promql
 
-from .checked_queries import Budget, Document, QueryChecker, limited_to
+from .checked_queries import VERDICTS, Budget, Document, QueryChecker, limited_to
 from .documents import Status, Target, read_document, targets_of
 from .files import BLANKS, STDIN, BoundError, FileError, write_file
 from .jobs import Report, add_arguments, as_bytes, bounds_of, work_on
@@ -91,21 +91,17 @@ class Printer:
         if self.style == PRETTY:
             try:
                 with _short_output():
-                    return promql.pretty(query, width=width)
+                    return VERDICTS.made(width, query, partial(promql.pretty, width=width))
             except promql.LongOutputError:
                 pass
         return self._for_people(query, width)
 
     def _for_people(self, query: str, width: int) -> str:
         """The query, laid out for people. Where it has to stay on one line the width is the greatest that there is."""
+        least, indent, keeps, sorts = min(width, promql.MAX_LINE), self.indent, self.keeps_spelling, self.sorts_matchers
+        make = partial(promql.format, width=least, indent=indent, keep_spelling=keeps, sort_matchers=sorts)
         with _short_output():
-            return promql.format(
-                query,
-                width=min(width, promql.MAX_LINE),
-                indent=self.indent,
-                keep_spelling=self.keeps_spelling,
-                sort_matchers=self.sorts_matchers,
-            )
+            return VERDICTS.made((least, indent, keeps, sorts), query, make)
 
     def means(self, new: str, query: Query) -> bool:
         """Whether a text is what the query is to be."""
@@ -114,7 +110,7 @@ class Printer:
             return False
         # (what stands for a variable may be longer than the variable)
         with limited_to(max_len=promql.limits()["max_output"]):
-            return promql.canonical(read) == promql.canonical(self.meant(query.laid_out))
+            return VERDICTS.made("line", read, promql.canonical) == VERDICTS.made("line", self.meant(query.laid_out), promql.canonical)
 
     def why_left(self, query: Query) -> str:
         """Why a query is not formatted, or nothing."""
@@ -123,9 +119,9 @@ class Printer:
 
     def _why_kept(self, query: Query) -> str:
         """Why an accepted query is not formatted, or nothing."""
-        if QueryChecker.error(query.text):
-            # (that one may be kept, and so is not raised)
-            promql.check(query.text)
+        error = QueryChecker.error(query.text)
+        if error:
+            raise error
         if query.kept or not comments_of(query.text):
             return query.kept
         if self.enforces or self.style == PRETTY:
@@ -149,7 +145,7 @@ def _enforcer(matcher: Optional[str]) -> Callable[[str], str]:
         promql.enforce("up", matcher)
     except ValueError as error:
         raise FileError(f"--enforce: {visible(str(error))}", getattr(error, "number", 0) or Status.FAILED) from error
-    return partial(promql.enforce, matcher=matcher)
+    return partial(VERDICTS.made, ("enforced", matcher), make=partial(promql.enforce, matcher=matcher))
 
 
 def _look_at_sizes(arguments: argparse.Namespace) -> None:
@@ -261,7 +257,8 @@ def _changes(document: Document, printer: Printer, messages: List[Message]) -> L
         except promql.LongOutputError:
             text, left = None, _TOO_LONG
         except ValueError as error:
-            fault = document.checker.rejected(query, error)
+            # (an error is kept, and its frames are not)
+            fault = document.checker.rejected(query, error.with_traceback(None))
             faults.append(placed(source, fault, ERROR, REJECTED, source.shown(fault)))
             continue
         except RecursionError:

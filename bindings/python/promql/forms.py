@@ -60,14 +60,7 @@ class UnaryForm(TypedDict):
 # (`bool` as a name in a class would hide the type)
 BinaryForm = TypedDict(
     "BinaryForm",
-    {
-        "type": Literal["binaryExpr"],
-        "bool": bool,
-        "lhs": "Form",
-        "matching": Optional[MatchingForm],
-        "op": str,
-        "rhs": "Form",
-    },
+    {"type": Literal["binaryExpr"], "bool": bool, "lhs": "Form", "matching": Optional[MatchingForm], "op": str, "rhs": "Form"},
 )
 
 

@@ -65,6 +65,7 @@ def small(number):
     return f"  - record: a{number}\n    expr: up  # why\n"
 
 
+PATTERNS = "{" + ",".join(f"l{i}=~`(?i)\\pL`" for i in range(27)) + "}"
 YAML = {
     # rules
     "small rules": rules(lambda n: f"  - record: a:b{n}\n    expr: sum(up{{a=\"{n}\"}})\n    # why\n"),
@@ -145,6 +146,8 @@ YAML = {
     "dear patterns and fixes": rules(
         lambda n: f"  - {{record: a{n}, expr: '{{" + ",".join(f"l{i}=~`(?i)\\pL{n}x{i}`" for i in range(30)) + f"}} + (a) + {n}'}}\n"
     ),
+    "one query with patterns": rules(lambda n: f"  - {{record: a{n}, expr: '{PATTERNS} + (a)'}}\n"),
+    "one rejected query with patterns": rules(lambda n: f"  - {{record: a{n}, expr: '{PATTERNS} +'}}\n"),
     "small patterns": rules(lambda n: f"  - {{record: a, expr: '{{a=~\"b{n}.+\"}}'}}\n"),
     # YAML
     "texts": filled(lambda n: "a", "[", "]", between=","),

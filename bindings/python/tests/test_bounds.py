@@ -37,6 +37,20 @@ def seconds_of(function, *arguments, **options):
     return time.process_time() - begin
 
 
+class Compiling:
+    """The calls of the library, which are counted where they compile the patterns of a query."""
+
+    def __init__(self, caller):
+        self.caller, self.count = caller, 0
+
+    def __getattr__(self, name):
+        def call(query, *arguments, **options):
+            self.count += "~" in str(query) and name != "tokens" and promql.limits()["max_patterns"] > 0
+            return getattr(self.caller, name)(query, *arguments, **options)
+
+        return call
+
+
 class LongQueries(unittest.TestCase):
     def test_lint(self):
         for name, query in DEAR_QUERIES.items():
@@ -294,6 +308,21 @@ class LargeFiles(unittest.TestCase):
         rules, problems = problems_of(RULE + "  - {record: a, expr: b}\n" * 20_000)
         self.assertEqual((rules, [(it.start > 140_000, it.message[:13]) for it in problems]), (None, [(True, "not looked at")]))
         self.assertIn("more than 35,000 nodes of YAML", problems[0].message)
+
+    def test_same_queries(self):
+        """The patterns of a query are compiled as often for many rules that have it as for two."""
+        commands = (["check"], ["lint"], ["lint", "--fix"], ["format", "--check"], ["format", "--check", "--style=pretty"])
+        for query in ('{a=~"b.+"} + (c)', '{a=~"b.+"}+c', '{a=~"b.+"} +'):
+            for command in (*commands, ["format", "--check", "--enforce=a='b'"]):
+                counts = []
+                for number in (2, 20):
+                    checked_queries.VERDICTS.forget()
+                    text = RULE + "".join(f"  - {{record: a{at}, expr: '{query}'}}\n" for at in range(number))
+                    with mock.patch.object(file_findings.LOOKS, "_known", checked_queries.Store()):
+                        with mock.patch.object(promql, "_caller", Compiling(promql._caller)) as caller:
+                            self.ran("a.yml", text, *command)
+                    counts.append(caller.count)
+                self.assertEqual(counts[0], counts[1], (query, command))
 
     def test_told_by_the_editor(self):
         """What is in queries is told of so many tokens, and each query counts as ten more."""

@@ -126,6 +126,8 @@ class FileLinter:
         self._silenced_codes: Dict[int, Set[str]] = {}
         self._unused: List[Comment] = []
         self._fixed_length = 0
+        # The queries with their fixes, by what these go by.
+        self._fixed: Dict[Tuple[Any, ...], str] = {}
         self._budget, self._compared = document.checker.lint_tokens, Budget(_MOST_COMPARED)
         self._reads = MOST_READS
         # The document that a text with fixes was read as, and the edits that make this text.
@@ -349,12 +351,14 @@ class FileLinter:
                 self._looks.keep(text, self._selection, context, found)
             return [it for it in found if not any(it.code in ignored for _, ignored in contexts)]
 
-        try:
-            text = all_fixed(query.text, look)
-        except (RecursionError, ValueError, BoundError):
-            # (as is told by `findings`)
-            return None
-        return (query, text) if text != query.text else None
+        key = query.text, *(ignored for _, ignored in contexts), *contexts[0][0].key
+        if is_written is not always or key not in self._fixed:
+            try:
+                self._fixed[key] = all_fixed(query.text, look)
+            except (RecursionError, ValueError, BoundError):
+                # (as is told by `findings`)
+                return None
+        return (query, self._fixed[key]) if self._fixed[key] != query.text else None
 
     def _edits(self, query: Query, text: str, plainly: bool) -> List[Edit]:
         """What writes another text in the place of a query: edits of the parts that differ, or one of the whole. There is none of a whole

@@ -8,6 +8,7 @@ from typing import Dict, Iterator, List, NamedTuple, Optional, Tuple, Union
 
 import promql
 
+from ..checked_queries import QueryChecker
 from ..dashboards import Dashboard
 from ..files import FileError
 from ..format_command import Printer, same_as
@@ -68,7 +69,7 @@ class _Printers:
         """The query as it is to be written, where it is written in another way."""
         try:
             printer = self.of(query)
-            text = None if printer.why_left(query) else printer.text(query)
+            text = None if QueryChecker.error(query.text) or printer.why_left(query) else printer.text(query)
         except ValueError:
             return None
         return text if text != query.original.rstrip("\n") else None

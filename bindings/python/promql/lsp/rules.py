@@ -7,7 +7,7 @@ from bisect import bisect_right
 from functools import lru_cache
 from typing import Iterable, Iterator, List, NamedTuple, Optional, Sequence, Tuple, Union
 
-from ..checked_queries import Budget, FileBounds, QueryChecker
+from ..checked_queries import Budget, FileBounds, QueryChecker, pattern_size
 from ..dashboards import Dashboard, may_have_queries
 from ..documents import GROUPS, document_of
 from ..files import Fault, FileError, Source
@@ -24,7 +24,7 @@ from .semantic import Role, roles_of
 from .settings import Settings
 
 NAME = "document"
-# Of a rule, and of the queries of a file, each of which costs beside its tokens as much as so many.
+# Of a rule, and of the queries of a file, each of which costs beside its tokens and patterns as much as so many.
 _MOST_NODES, _MOST_TOKENS, _QUERY = 10_000, 60_000, 10
 # A rule file is read to tell more of it than a report has, so a larger one is not looked at.
 BOUNDS = FileBounds(max_file_nodes=35_000)
@@ -139,7 +139,7 @@ file_of = lru_cache(maxsize=1)(read_file)
 
 def rules_of(file: Union[Dashboard, RuleFile]) -> List[Rule]:
     text, budget = file.source.text, Budget(_MOST_TOKENS)
-    admitted = (query for query in _admitted(file) if budget.takes(_QUERY) and budget.takes(len(tokens_of(query.text))))
+    admitted = (query for query in _admitted(file) if budget.takes(_QUERY) and budget.takes(len(tokens_of(query.text)) + pattern_size(query.text)))
     placed = (PlacedQuery(query.text, query.offsets, query.variables) for query in admitted)
     queries = sorted(placed, key=lambda query: query.start)
     if isinstance(file, Dashboard):
