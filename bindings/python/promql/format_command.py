@@ -119,8 +119,7 @@ class Printer:
 
     def _why_kept(self, query: Query) -> str:
         """Why an accepted query is not formatted, or nothing."""
-        error = QueryChecker.error(query.text)
-        if error:
+        if error := QueryChecker.error(query.text):
             raise error
         if query.kept or not comments_of(query.text):
             return query.kept
@@ -172,6 +171,7 @@ def _run(arguments: argparse.Namespace) -> int:
     if arguments.keep_spelling:
         # (what would be read otherwise stays as it is written)
         promql.set_target("rules")
+        VERDICTS.forget()
     targets = targets_of(arguments.files, arguments.dashboard)
     return work_on(targets, partial(_format_file, enforcer), arguments, goes_on=True, needs_queries=arguments.check)
 

@@ -17,6 +17,7 @@ from promql.files import Fault, LineIndex, Source
 from promql.lint import file_findings, fix, fixes, lint
 from promql.lint.file_findings import MOST_FINDINGS
 from promql.lsp import rules as lsp_rules
+from promql.lsp.layout import rule_file_edits
 from promql.lsp.rules import problems_of
 from promql.rule_files import RuleFile
 
@@ -323,6 +324,16 @@ class LargeFiles(unittest.TestCase):
                             self.ran("a.yml", text, *command)
                     counts.append(caller.count)
                 self.assertEqual(counts[0], counts[1], (query, command))
+
+    def test_laid_out_by_the_editor(self):
+        """Queries with patterns beyond the bound of the file stay as they are, and the others are laid out."""
+        queries = [f'{{a=~"b{number}.+"}}+c' for number in range(3)] + ["b+c"]
+        text = RULE + "".join(f"  - {{record: a, expr: '{query}'}}\n" for query in queries)
+        for most, count in ((sum(map(pattern_size, queries)), 4), (sum(map(pattern_size, queries)) - 1, 3)):
+            with mock.patch.object(lsp_rules, "BOUNDS", FileBounds(max_file_patterns=most)):
+                lsp_rules.file_of.cache_clear()
+                self.assertEqual(len(rule_file_edits(text, None)), count)
+        lsp_rules.file_of.cache_clear()
 
     def test_told_by_the_editor(self):
         """What is in queries is told of so many tokens, and each query counts as ten more."""

@@ -41,9 +41,9 @@ def rule_file_edits(text: str, span: Optional[Span], settings: Settings = Settin
 
 def _edits_in(file: Union[Dashboard, RuleFile], span: Optional[Span], settings: Settings, by_rules: bool) -> List[Edit]:
     """The same. By rules, only those that change are read again, where they are few, and not all of the file."""
-    text, printers = file.source.text, _Printers(settings)
+    text, admits, printers = file.source.text, file.checker.admits, _Printers(settings)
     queries = [it for it in file.queries if span is None or it.offsets[0] <= span[1] and span[0] <= it.offsets[-1]]
-    changes = [(query, new) for query in queries for new in [printers.laid_out(query)] if new is not None]
+    changes = [(it, new) for it in queries if admits(it.text) for new in [printers.laid_out(it)] if new is not None]
     if not changes:
         return []
     edits = [query.spelling.edit(new) for query, new in changes]
