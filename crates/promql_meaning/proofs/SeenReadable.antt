@@ -10,8 +10,8 @@ use Rattle.promql_ast.specs.Tree.{Tree, aggregate, unary, binary, paren, subquer
 use Rattle.promql_rewrite.specs.Enforcing.{is_info}
 use Rattle.promql_rewrite.specs.Selecting.{Series, selects}
 use Rattle.promql_when.specs.MayRead.{any_may_read, may_read, maybe_may_read}
-use Rattle.promql_when.specs.Reads.{is_bare_info}
-use Rattle.promql_meaning.specs.Stores.{Stored, Store, read, target_info}
+use Rattle.promql_when.specs.Reads.{is_bare_info, target_info}
+use Rattle.promql_meaning.specs.Stores.{Stored, Store, read}
 use Rattle.promql_meaning.specs.Seen.{joined, aggregated, negated, operated, stepped, called, extended, instants, ranges, none_seen, first_seen, seen, maybe_seen, all_seen, beside, info_beside, is_absent, nothing, series}
 use Rattle.promql_meaning.proofs.SeenClauses.{matchers_in_first}
 

@@ -16,7 +16,8 @@ use Rattle.promql_ast.specs.Tree.{Tree, aggregate, unary, binary, paren, subquer
 use Rattle.promql_ast.specs.declared.range_mode.RangeMode.{RangeMode}
 use Rattle.promql_rewrite.specs.Collecting.{nodes_of}
 use Rattle.promql_rewrite.specs.Enforcing.{is_info}
-use Rattle.promql_meaning.specs.Stores.{Store, read, target_info}
+use Rattle.promql_when.specs.Reads.{target_info}
+use Rattle.promql_meaning.specs.Stores.{Store, read}
 
 -- ---- modifiers
 

@@ -1,7 +1,7 @@
 -- Stores of series (docs/guide/meaning.md, "A store").
-use Rattle.std.specs.Prelude.{ℕ, List, [], filter, Some, None, codes}
-use Rattle.promql_label.specs.PlainMatchers.{PlainMatcher, plain_matchers}
-use Rattle.promql_ast.specs.Selectors.{Selector, selector}
+use Rattle.std.specs.Prelude.{ℕ, List, filter}
+use Rattle.promql_label.specs.PlainMatchers.{PlainMatcher}
+use Rattle.promql_ast.specs.Selectors.{Selector}
 use Rattle.promql_ast.specs.Tree.{Tree}
 use Rattle.promql_rewrite.specs.Selecting.{Series, allows, selects}
 use Rattle.promql_when.specs.MayRead.{may_read}
@@ -25,7 +25,3 @@ kept c store = filter (λ x. allows c x.labels) store
 -- those that a query may read
 abbrev pub readable : Tree → Store → Store
 readable t store = filter (λ x. may_read x.labels t) store
-
--- what `info` reads where it has no second argument
-abbrev pub target_info : Selector
-target_info = selector (Some (codes "target_info")) (plain_matchers [] []) None None
