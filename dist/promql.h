@@ -32,7 +32,7 @@ extern "C" {
 #endif
 
 /* The version of this header; promql_version has that of the library. */
-#define PROMQL_VERSION "0.5.0"
+#define PROMQL_VERSION "0.6.0"
 
 /* How promql_print prints. */
 enum promql_mode {
@@ -61,7 +61,7 @@ enum promql_target {
  * A thread needs more than these, for what it does itself. */
 #define PROMQL_STACK 1310720
 
-/* 0, or why the buffer does not have what was asked for. With 1 to 6, 9, 11 to 14, 16 to 18, 20 to 24 the text is the message of
+/* 0, or why the buffer does not have what was asked for. With 1 to 6, 9, 11 to 14, 16 to 18, 20 to 26 the text is the message of
  * the error. */
 enum promql_status {
     PROMQL_OK = 0,
@@ -73,7 +73,7 @@ enum promql_status {
     PROMQL_UNKNOWN_MODE = 9,     /* or a level above 512, no kind of what is renamed, no target, or for promql_format_query a width above
                                     65535 or an indentation above 16 */
     PROMQL_BAD_POINTER = 10,     /* a pointer is NULL though its length is not 0, a length is above PTRDIFF_MAX, or the
-                                    result is NULL; there is no text */
+                                    times or the result are NULL; there is no text */
     PROMQL_BAD_MATCHER = 11,     /* the matcher is none, or is of the metric's name, __name__ */
     PROMQL_UNFAITHFUL = 12,      /* the text that was made would not mean the query, or the tree */
     PROMQL_BARE_INFO = 13,       /* the query has info without a second argument: no matcher limits the series that it reads */
@@ -87,7 +87,9 @@ enum promql_status {
     PROMQL_METRIC_LABEL = 21,    /* the old name or the new one is __name__, which names no label but the metric */
     PROMQL_CLASH = 22,           /* both labels are in one list, and would become one */
     PROMQL_READ_OTHERWISE = 23,  /* the target reads the query otherwise, and the result has the place, or the matcher */
-    PROMQL_REFUSED = 24          /* promql_check: the target rejects the query, and the result has the place */
+    PROMQL_REFUSED = 24,         /* promql_check: the target rejects the query, and the result has the place */
+    PROMQL_TIME_OVERFLOW = 25,   /* promql_windows, promql_last_read: a time is below -2^63 or above 2^63 - 1; the message shows the node */
+    PROMQL_GRID_FUNCTION = 26    /* promql_pinned: the query calls start, end, step or range, whose values are those of the whole query */
 };
 
 struct promql_result {
@@ -100,6 +102,17 @@ struct promql_result {
     size_t end;
     size_t line;
     size_t column;
+};
+
+/* When a query is evaluated, and how far an engine looks back (docs/reference/when.md, "Times"). All are milliseconds, since the epoch where
+ * they are moments. */
+struct promql_times {
+    int64_t start;         /* the first time: that of @ start() */
+    int64_t end;           /* the time after which there is none: that of @ end(). An instant query has one time, which is both */
+    uint64_t step;         /* from one time to the next; 0 counts as 1 */
+    uint64_t lookback;     /* how far back a selector without a range takes a sample: 300000 in Prometheus */
+    uint64_t default_step; /* the step of a subquery without one: 60000 in Prometheus */
+    uint32_t left_open;    /* not 0 where a sample at the very beginning of a window is left out, as in Prometheus 3 */
 };
 
 /* Prints a query. `level` counts indentations of two spaces, and `width` is the most bytes that a line has after them; both
@@ -154,6 +167,29 @@ uint32_t promql_differences(const char *query, size_t query_length, char *buffer
 uint32_t promql_tokens(const char *text, size_t text_length, char *buffer, size_t buffer_size,
                        struct promql_result *result);
 
+/* Shows when each selector of a query reads over all times of the query, as JSON: an array with an array for each selector, in the order of a
+ * walk: the selector as it prints without its range, and the first and the last millisecond of its window, as ["a",-300000,0]. Both are null
+ * where the selector is never evaluated. A call of info without a second argument also has target_info, after its argument
+ * (docs/guide/bindings.md, "When a query reads"). */
+uint32_t promql_windows(const char *query, size_t query_length, const struct promql_times *times, char *buffer, size_t buffer_size,
+                        struct promql_result *result);
+
+/* Shows the last millisecond that a query reads where it is evaluated at `time`, as JSON: a number, or null where it reads nothing. Once all
+ * samples up to there are known, its value at this time does not change. Of `times` the step counts for nothing here. */
+uint32_t promql_last_read(const char *query, size_t query_length, int64_t time, const struct promql_times *times, char *buffer,
+                          size_t buffer_size, struct promql_result *result);
+
+/* Prints a query on one line with these times, in milliseconds since the epoch, for @ start() and @ end(): the query reads at each time what
+ * it reads there from the first of these times through the last, whatever the times are over which it is evaluated. So its line is the key
+ * of parts of an answer (docs/guide/cache.md). */
+uint32_t promql_pinned(const char *query, size_t query_length, int64_t start, int64_t end, char *buffer, size_t buffer_size,
+                       struct promql_result *result);
+
+/* Shows whether a query is the same at every time, as JSON: true or false. It may be the same where this says false
+ * (docs/reference/when.md, "Constant queries"). */
+uint32_t promql_is_constant(const char *query, size_t query_length, char *buffer, size_t buffer_size,
+                            struct promql_result *result);
+
 /* Checks a query, also whether the target reads it otherwise or rejects it (promql_set_target). The text is empty where it is accepted. */
 uint32_t promql_check(const char *query, size_t query_length, char *buffer, size_t buffer_size,
                       struct promql_result *result);
@@ -193,7 +229,7 @@ void promql_set_limits(size_t max_len, size_t max_pattern_size);
 uint32_t promql_format_query(const char *query, size_t query_length, size_t width, size_t indent_width, uint32_t spelling,
                              char *buffer, size_t buffer_size, struct promql_result *result);
 
-/* Sets how many bytes a text of promql_print, promql_canonical, promql_print_tree or promql_format_query
+/* Sets how many bytes a text of promql_print, promql_canonical, promql_pinned, promql_print_tree or promql_format_query
  * has at most, for each later call of the process: 4194304 before the
  * first such call. The buffer bounds what the caller keeps, and this what the library makes. */
 void promql_set_max_output(size_t bytes);
