@@ -212,6 +212,6 @@ def accepted(document: Document) -> Iterator[Query]:
 
 def recorded_in(document: Document) -> FrozenSet[str]:
     """The metrics that the rules of a file record, with those of its texts that are files."""
-    files = [document, *(it.document for it in document.texts)] if isinstance(document, RuleFile) else []
-    names = (file.mappings.name(rule, "record") for file in files if isinstance(file, RuleFile) for rule in file.rules())
+    files = document.files() if isinstance(document, RuleFile) else []
+    names = (file.mappings.name(rule, "record") for file in files for rule in file.rules())
     return frozenset(filter(None, names))

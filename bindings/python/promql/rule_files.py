@@ -9,7 +9,7 @@ from array import array
 from functools import partial
 from importlib import import_module
 from itertools import chain, islice
-from typing import Callable, Dict, Iterator, List, Optional, Sequence, Set, Tuple, Union
+from typing import Callable, Dict, Iterator, List, Optional, Sequence, Tuple, Union
 
 from . import limits
 from .checked_queries import NO_BOUND, Document, PlacedFile, QueryChecker
@@ -17,7 +17,7 @@ from .exact_yaml import ExactYaml, look_for_reader
 from .files import BoundError, Fault, FileError, Source, counted, nested_too_deeply
 from .queries import Query, SameQuery
 from .quick_yaml import QuickYaml, Unclear, quick_yaml
-from .rule_checks import LOOKED_AT, RuleChecks
+from .rule_checks import LOOKED_AT, RuleChecks, mappings_in
 from .rule_documents import WITH_QUERIES, Kind, RuleDocument, documents_of, is_board, is_logql, is_surely_of_rules
 from .scalars import Entry, Mappings, Node, Scalar
 
@@ -100,16 +100,19 @@ class RuleFile(Document):
         self._parts.unread += placed.faults(file.unread)
         self._parts.rules += file.rule_count if isinstance(file, RuleFile) else 0
 
-    def rules(self) -> Iterator[Node]:
+    def files(self) -> List[RuleFile]:
+        """This file, and those of its texts that are rule files."""
+        return [self, *(it.document for it in self.texts if isinstance(it.document, RuleFile))]
+
+    def groups(self, *kinds: Kind) -> List[Node]:
+        """The mapping of each group in the documents of these kinds, once for all its aliases."""
+        groups = (group for it in self.documents if it.kind in kinds for group in it.groups(self.mappings))
+        return list({id(group): group for group in groups if group.kind == "mapping"}.values())
+
+    def rules(self) -> List[Node]:
         """The mapping of each rule of Prometheus, once for all its aliases."""
-        seen: Set[int] = set()
-        mappings = self._parts.mappings
-        for group in (group for it in self._parts.documents if it.kind is Kind.RULES for group in it.groups(mappings)):
-            rules = mappings.value(group, "rules")
-            for rule in rules.value if rules and rules.kind == "sequence" else ():
-                if rule.kind == "mapping" and id(rule) not in seen:
-                    seen.add(id(rule))
-                    yield rule
+        rules = (rule for group in self.groups(Kind.RULES) for rule in mappings_in(self.mappings.value(group, "rules")))
+        return list({id(rule): rule for rule in rules}.values())
 
     def summary(self) -> str:
         parts = self._parts
@@ -118,18 +121,15 @@ class RuleFile(Document):
         return ", ".join(tests if tests and not parts.rules else [counted(parts.rules, "rule", "rules"), *tests])
 
     def checks(self) -> Tuple[List[Fault], List[Fault]]:
-        mappings = self._parts.mappings
-        found = RuleChecks(mappings, self._parts.yaml.has_aliases)
+        found = RuleChecks(self.mappings, self._parts.yaml.has_aliases)
         try:
-            for document in self._parts.documents:
-                if document.kind is not Kind.RULES:
-                    continue
+            for document in (it for it in self.documents if it.kind is Kind.RULES):
                 if document.is_whole:
                     found.look_at_fields(document.owner, "file", _FIELDS)
                 if document.key == "rules":
                     found.look_at_rules(document.owner)
                 else:
-                    found.look_at_groups(document.groups(mappings), document.object_kind)
+                    found.look_at_groups(document.groups(self.mappings), document.object_kind)
         except RecursionError as error:
             raise nested_too_deeply(self.source.name) from error
         for text in self.texts:
@@ -173,9 +173,7 @@ class _Parts:
         self._left: Dict[int, str] = {}
         self.mappings = Mappings(source.name)
         looks_inside = "expr" in source.text
-        self.documents = [
-            self._seen(document) for root in yaml.roots for document in documents_of(root, self.mappings, looks_inside)
-        ]
+        self.documents = [self._seen(document) for root in yaml.roots for document in documents_of(root, self.mappings, looks_inside)]
         if self.rules + self.tests > _MOST_RULES:
             raise FileError(f"{self._source.name}: {_TOO_MANY}")
         self.has_rules = any(document.kind in WITH_QUERIES or document.kind is Kind.TEXT for document in self.documents)
@@ -291,11 +289,8 @@ class _Parts:
         self.faults.append(Fault(node.start, node.start, message))
 
     def _read_queries(self) -> Iterator[Query]:
-        others = (
-            {id(node) for root in self.yaml.roots for part, node in _reached(root) if part != "expr"}
-            if self.yaml.has_aliases
-            else ()
-        )
+        roots = self.yaml.roots if self.yaml.has_aliases else []
+        others = {id(node) for root in roots for part, node in _reached(root) if part != "expr"}
         for key, node in self._found.values():
             scalar = self._scalar(key, node)
             # (a longer text is rejected as a whole)

@@ -57,20 +57,16 @@ RulePlaces = Tuple[List[RulePlace], List[int]]
 def rules_of(file: RuleFile, budget: Budget, shared: Optional[SharedRecords] = None) -> RulePlaces:
     """The rules of a file that have queries. Each is there once for all its aliases in groups of one interval. The budget is that of the
     queries that are read to find the labels of recorded metrics, where those of several files are not known."""
-    records = RecordsReader(file.mappings, _groups(file), partial(take, budget=budget), file.source.name, shared)
-    return _Reader(file.mappings, _groups(file), records).read()
-
-
-def _groups(file: RuleFile) -> List[Node]:
-    documents = [it for it in file.documents if it.kind is Kind.RULES]
-    return list({id(group): group for it in documents for group in it.groups(file.mappings) if group.kind == "mapping"}.values())
+    groups = file.groups(Kind.RULES)
+    records = RecordsReader(file.mappings, groups, partial(take, budget=budget), file.source.name, shared)
+    return _Reader(file.mappings, groups, records).read()
 
 
 def recorded_rules(file: RuleFile) -> List[RecordedRule]:
     """The rules of a file and of its texts that record, without the labels of those beyond the bound of tokens."""
-    files, budget, found = [file, *(it.document for it in file.texts)], Budget(file.checker.bounds.max_lint_tokens), []
-    for one in files:
-        for rule in RecordsReader(one.mappings, _groups(one), lambda query: None).rules.values() if isinstance(one, RuleFile) else ():
+    budget, found = Budget(file.checker.bounds.max_lint_tokens), []
+    for one in file.files():
+        for rule in RecordsReader(one.mappings, one.groups(Kind.RULES), lambda query: None).rules.values():
             try:
                 take(rule.query, budget)
             except BoundError:
@@ -110,13 +106,11 @@ class _Reader:
             lists.add((id(items), interval))
             for rule in mappings_in(items):
                 found = intervals.setdefault(id(rule), set())
-                if interval in found:
-                    continue
-                if len(found) == MOST_INTERVALS:
+                if interval not in found and len(found) == MOST_INTERVALS:
                     self._cut[id(rule)] = rule.start
-                    continue
-                found.add(interval)
-                yield interval, rule
+                elif interval not in found:
+                    found.add(interval)
+                    yield interval, rule
 
     def _place(self, interval: Optional[int], rule: Node, recorded: Dict[str, int]) -> Iterator[RulePlace]:
         query = self._mappings.value(rule, "expr")

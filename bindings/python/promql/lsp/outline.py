@@ -2,11 +2,12 @@
 
 from __future__ import annotations
 
-from typing import TYPE_CHECKING, Any, Dict, Iterator, List, NamedTuple, Optional, Tuple, Union
+from typing import TYPE_CHECKING, Any, Dict, List, NamedTuple, Optional, Tuple, Union
 
 from ..dashboards import Dashboard
 from ..rule_documents import Kind
 from ..rule_files import RuleFile
+from ..scalars import Node
 from .rules import Rule, end_of
 
 if TYPE_CHECKING:
@@ -30,17 +31,14 @@ class Group(NamedTuple):
 
 
 def groups_of(file: Union[Dashboard, RuleFile]) -> List[Group]:
-    return [Group(*panel) for panel in file.panels()] if isinstance(file, Dashboard) else list(_groups(file))
+    if isinstance(file, Dashboard):
+        return [Group(*panel) for panel in file.panels()]
+    return [_group(file, group) for group in file.groups(Kind.RULES, Kind.GRAFANA)]
 
 
-def _groups(file: RuleFile) -> Iterator[Group]:
-    seen = set()
-    for document in file.documents:
-        for group in document.groups(file.mappings) if document.kind in (Kind.RULES, Kind.GRAFANA) else ():
-            if group.kind == "mapping" and id(group) not in seen:
-                seen.add(id(group))
-                length = len(file.source.text[group.start : end_of(group)[0]].rstrip())
-                yield Group(file.mappings.name(group, "name"), group.start, group.start + length)
+def _group(file: RuleFile, group: Node) -> Group:
+    length = len(file.source.text[group.start : end_of(group)[0]].rstrip())
+    return Group(file.mappings.name(group, "name"), group.start, group.start + length)
 
 
 def symbols(document: Document) -> List[Any]:
