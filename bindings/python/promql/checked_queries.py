@@ -185,19 +185,19 @@ class QueryChecker:
         found = _verdict(text)
         return None if isinstance(found, promql.RefusedError) else found
 
+    def admitted(self, queries: Iterable[Query], left: List[Query]) -> Iterator[Query]:
+        """Those of the queries that are looked at. Those whose patterns are beyond the bound are added to what is left."""
+        for query in queries:
+            if not query.skipped and self.admits(query.text):
+                yield query
+            elif not query.skipped:
+                left.append(query)
+
     def faults(self, queries: Iterable[Query]) -> List[Fault]:
         """What is wrong with the queries of the file, and that some are not looked at."""
-        found: List[Fault] = []
         left: List[Query] = []
-        for query in queries:
-            if query.skipped:
-                continue
-            if not self.admits(query.text):
-                left.append(query)
-                continue
-            error = _verdict(query.text)
-            if error:
-                found.append(self.rejected(query, error))
+        verdicts = ((query, _verdict(query.text)) for query in self.admitted(queries, left))
+        found = [self.rejected(query, error) for query, error in verdicts if error]
         return found + self.left(left)
 
     def rejected(self, query: Query, error: ValueError) -> Fault:

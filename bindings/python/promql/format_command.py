@@ -16,7 +16,7 @@ import promql
 
 from .checked_queries import VERDICTS, Budget, Document, QueryChecker, limited_to
 from .documents import Status, Target, read_document, targets_of
-from .files import BLANKS, STDIN, BoundError, FileError, write_file
+from .files import BLANKS, STDIN, BoundError, Fault, FileError, write_file
 from .jobs import Report, add_arguments, as_bytes, bounds_of, work_on
 from .messages import ERROR, KEPT, LAYOUT, REJECTED, RULE, WARNING, Message, in_order, kind_of_skipped, left_out, of_error, placed
 from .options import PEOPLE, PRETTY, STYLES, WIDTH, whole_number
@@ -243,9 +243,8 @@ def _changes(document: Document, printer: Printer, messages: List[Message]) -> L
     faults = [placed(source, fault, ERROR, RULE, source.shown(fault)) for fault in document.faults]
     over: List[Query] = []
 
-    def complain(query: Query, message: str) -> None:
-        fault = query.whole(message)
-        faults.append(placed(source, fault, ERROR, KEPT, source.shown(fault)))
+    def complain(fault: Fault, code: str = KEPT) -> None:
+        faults.append(placed(source, fault, ERROR, code, source.shown(fault)))
 
     for query in document.queries:
         if not query.skipped and not document.checker.admits(query.text):
@@ -258,23 +257,23 @@ def _changes(document: Document, printer: Printer, messages: List[Message]) -> L
             text, left = None, _TOO_LONG
         except ValueError as error:
             # (an error is kept, and its frames are not)
-            fault = document.checker.rejected(query, error.with_traceback(None))
-            faults.append(placed(source, fault, ERROR, REJECTED, source.shown(fault)))
+            complain(document.checker.rejected(query, error.with_traceback(None)), REJECTED)
             continue
         except RecursionError:
-            complain(query, "nested too deeply")
+            complain(query.whole("nested too deeply"))
             continue
         if text is not None and len(text.encode()) > promql.limits()["max_len"]:
             text, left = None, _TOO_LONG
         if text is None and printer.enforces:
-            complain(query, f"not enforced: {left}")
+            complain(query.whole(f"not enforced: {left}"))
         elif text is None:
             fault = query.whole(f"warning: left as it is: {left or _NOT_BACK}")
             kind = kind_of_skipped(query) if query.skipped else (WARNING, KEPT)
             messages.append(placed(source, fault, *kind, source.located(fault)))
         elif text != query.original.rstrip("\n"):
             changes.append((query, text))
-    faults += [placed(source, fault, ERROR, REJECTED, source.shown(fault)) for fault in document.checker.left(over)]
+    for fault in document.checker.left(over):
+        complain(fault, REJECTED)
     if faults:
         raise _FaultsError(in_order(faults))
     return changes

@@ -11,9 +11,9 @@ from typing import Any, Dict, FrozenSet, Iterator, List, Mapping, NamedTuple, Op
 
 import promql
 
-from ..checked_queries import Budget, Document, GivenQuery, PlacedSpelling, Store, take, takes
-from ..dashboards import Dashboard, JsonString
-from ..files import BLANKS, BoundError, Fault, FileError, Source
+from ..checked_queries import Budget, Document, PlacedSpelling, Store, take, takes
+from ..dashboards import JsonString
+from ..files import BLANKS, BoundError, Fault, FileError
 from ..queries import Edit, Query, edited
 from ..rule_files import RuleFile
 from ..scalars import Scalar
@@ -160,12 +160,7 @@ class FileLinter:
         found: List[FileFinding] = []
         left: List[Query] = []
         checker = self._document.checker
-        for query in self._document.queries:
-            if query.skipped:
-                continue
-            if not checker.admits(query.text):
-                left.append(query)
-                continue
+        for query in checker.admitted(self._document.queries, left):
             if len(found) > MOST_FINDINGS:
                 self.left.append(query.whole(f"not looked at from here on: there are more than {MOST_FINDINGS:,} findings before"))
                 break
@@ -372,21 +367,12 @@ class FileLinter:
         """Whether a text of the file is read as these queries, and all else in it as before."""
         source = self._document.source._replace(text=text)
         try:
-            self.fixed_document = _read_again(self._document, source)
+            # (a document of any kind is made of a source and a checker)
+            self.fixed_document = type(self._document)(source, checker=self._document.checker.anew())
             read = [query.text for query in self.fixed_document.queries]
             return read == list(queries) and self._document.same(text, lambda old, new: True)
         except FileError:
             return False
-
-
-def _read_again(document: Document, source: Source) -> Document:
-    """The document of this kind that another text is."""
-    checker = document.checker.anew()
-    if isinstance(document, RuleFile):
-        return RuleFile(source, checker)
-    if isinstance(document, Dashboard):
-        return Dashboard(source, checker=checker)
-    return GivenQuery(source, checker)
 
 
 def _with_variables(query: Query, text: str) -> str:
