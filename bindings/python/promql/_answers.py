@@ -13,7 +13,6 @@ class Status(IntEnum):
     NOT_UTF8 = 3
     REJECTED = 4
     NUMBER_TOO_WIDE = 6
-    BUFFER_TOO_SMALL = 8
     UNKNOWN_MODE = 9
     BAD_POINTER = 10
     BAD_MATCHER = 11

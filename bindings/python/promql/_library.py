@@ -112,16 +112,28 @@ def _about(name: str, room: int, text: str, *arguments: Any) -> Answer:
     return _answer(call(name, room * len(encoded), encoded, len(encoded), *arguments))
 
 
-# Those about a query alone.
+def _printed(mode: Mode, query: str, *sizes: int) -> Answer:
+    return _answer(print_query(_encoded(query), mode, *sizes))
+
+
+# Those about a query alone, and those that have numbers beside it: a place, times, or how it is printed.
 _AboutQuery = Callable[[str], Answer]
+_WithTwo = Callable[[str, int, int], Answer]
 canonical: _AboutQuery = partial(_about, "promql_canonical", 2)
 check: _AboutQuery = partial(_about, "promql_check", 0)
 collect: _AboutQuery = partial(_about, "promql_collect", 4)
 differences: _AboutQuery = partial(_about, "promql_differences", 2)
+format: _WithTwo = partial(_printed, Mode.PRETTY)
 is_constant: _AboutQuery = partial(_about, "promql_is_constant", 0)
+json: _AboutQuery = partial(_printed, Mode.JSON)
 parts: _AboutQuery = partial(_about, "promql_parts", 8)
+pinned: _WithTwo = partial(_about, "promql_pinned", 2)
+placed_json: _AboutQuery = partial(_printed, Mode.PLACED_JSON)
 places: _AboutQuery = partial(_about, "promql_places", 4)
+snippet: _WithTwo = partial(_about, "promql_snippet", 2)
 tokens: _AboutQuery = partial(_about, "promql_tokens", 16)
+format_query: Callable[[str, int, int, int], Answer] = partial(_about, "promql_format_query", 4)
+print_tree: Callable[[str, int, int, int, int], Answer] = partial(_about, "promql_print_tree", 1)
 
 
 def canonical_many(queries: Iterable[str]) -> Lines:
@@ -155,36 +167,8 @@ def last_read(query: str, time: int, *times: int) -> Answer:
     return _about("promql_last_read", 0, query, time, ctypes.byref(Times(*times)))
 
 
-def pinned(query: str, start: int, end: int) -> Answer:
-    return _about("promql_pinned", 2, query, start, end)
-
-
 def explain(query: str) -> Answer:
     return _about("promql_explain", 2, query, 1)
-
-
-def format(query: str, level: int, width: int) -> Answer:
-    return _answer(print_query(_encoded(query), Mode.PRETTY, level, width))
-
-
-def format_query(query: str, width: int, indent_width: int, spelling: int) -> Answer:
-    return _about("promql_format_query", 4, query, width, indent_width, spelling)
-
-
-def json(query: str) -> Answer:
-    return _answer(print_query(_encoded(query), Mode.JSON))
-
-
-def placed_json(query: str) -> Answer:
-    return _answer(print_query(_encoded(query), Mode.PLACED_JSON))
-
-
-def snippet(query: str, start: int, end: int) -> Answer:
-    return _about("promql_snippet", 2, query, start, end)
-
-
-def print_tree(form: str, mode: int, level: int, width: int, parentheses: int) -> Answer:
-    return _about("promql_print_tree", 1, form, mode, level, width, parentheses)
 
 
 def set_limits(max_len: int, max_pattern_size: int, max_output: int, max_tree: int) -> None:

@@ -2,7 +2,7 @@
 
 from __future__ import annotations
 
-from typing import Any, Dict, List, Optional, Sequence, Tuple
+from typing import Any, Callable, Dict, List, Optional, Sequence, Tuple
 
 from . import Error
 
@@ -21,6 +21,21 @@ class FormError(Error):
 
     def __str__(self) -> str:
         return f"{self.path}: {self.message}"
+
+
+def _reader(kinds: Tuple[type, ...], words: str) -> Callable[[Members, str], Any]:
+    """What reads the value of a member, which is of one of these types, and in range where it is a number."""
+
+    def read(members: Members, name: str) -> Any:
+        found = members.value(name)
+        # (a bool is an int of Python)
+        if type(found) not in kinds:
+            raise members.error(name, f"expected {words}")
+        if type(found) is int and not LOWEST <= found <= HIGHEST:
+            raise members.error(name, "expected a whole number from -2^63 to 2^64 - 1")
+        return found
+
+    return read
 
 
 class Members:
@@ -73,20 +88,12 @@ class Members:
             if name not in self._read:
                 raise self.error(name, "unknown member")
 
-    def text(self, name: str) -> Any:
-        return self._of_type(name, (str,), "a string")
-
-    def flag(self, name: str) -> Any:
-        return self._of_type(name, (bool,), "true or false")
-
-    def whole(self, name: str) -> Any:
-        return self._of_type(name, (int,), "a whole number")
-
-    def text_or_none(self, name: str) -> Any:
-        return self._of_type(name, (str, NoneType), "a string or null")
-
-    def whole_or_none(self, name: str) -> Any:
-        return self._of_type(name, (int, NoneType), "a whole number or null")
+    text = _reader((str,), "a string")
+    flag = _reader((bool,), "true or false")
+    whole = _reader((int,), "a whole number")
+    text_or_none = _reader((str, NoneType), "a string or null")
+    whole_or_none = _reader((int, NoneType), "a whole number or null")
+    items = _reader((list,), "a list")
 
     def word(self, name: str, words: Sequence[str]) -> str:
         found = self.value(name)
@@ -101,21 +108,8 @@ class Members:
                 raise self.error(f"{name}[{number}]", "expected a string")
         return tuple(items)
 
-    def items(self, name: str) -> Any:
-        return self._of_type(name, (list,), "a list")
-
     def below(self, name: str) -> Members:
         return Members(self.value(name), self, name)
 
     def objects(self, name: str) -> List[Members]:
         return [Members(item, self, f"{name}[{number}]") for number, item in enumerate(self.items(name))]
-
-    def _of_type(self, name: str, kinds: Tuple[type, ...], words: str) -> Any:
-        """The value of a member, which is of one of these types, and in range where it is a number."""
-        found = self.value(name)
-        # (a bool is an int of Python)
-        if type(found) not in kinds:
-            raise self.error(name, f"expected {words}")
-        if type(found) is int and not LOWEST <= found <= HIGHEST:
-            raise self.error(name, "expected a whole number from -2^63 to 2^64 - 1")
-        return found

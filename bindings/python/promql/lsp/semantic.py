@@ -13,15 +13,8 @@ if TYPE_CHECKING:
     from .rules import PlacedQuery
 
 TYPES = ["function", "keyword", "operator", "string", "regexp", "number", "variable", "property", "comment"]
-_BY_KIND = {
-    "aggregator": "function",
-    "keyword": "keyword",
-    "operator": "operator",
-    "string": "string",
-    "number": "number",
-    "duration": "number",
-    "comment": "comment",
-}
+# Those of tokens whose kinds have other names.
+_BY_KIND = {"aggregator": "function", "duration": "number"}
 
 
 class Role(NamedTuple):
@@ -52,7 +45,7 @@ def _roles(tokens: Tuple[Token, ...]) -> Iterator[Role]:
         elif token.kind == "aggregator" and after != "(" and after.lower() not in ("by", "without"):
             name = "variable"
         else:
-            name = _BY_KIND.get(token.kind, "")
+            name = _BY_KIND.get(token.kind, token.kind)
         if name and token.kind != "error":
             yield Role(TYPES.index(name), token.start, token.end)
         if token.kind != "comment":
