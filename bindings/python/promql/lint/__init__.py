@@ -81,9 +81,7 @@ def look_at(
     try:
         tree = promql.parse(query)
     except promql.QueryError as error:
-        if not selection.has(REJECTED):
-            return []
-        return [_rejected(error, error.message if explains(error) else error.reason)]
+        return [_rejected(error, error.message if explains(error) else error.reason)] if selection.has(REJECTED) else []
     return look_at_tree(query, tree, selection, context, is_written)
 
 

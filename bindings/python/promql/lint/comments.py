@@ -7,7 +7,8 @@ import re
 from bisect import bisect_left
 from dataclasses import dataclass
 from functools import lru_cache
-from typing import FrozenSet, Iterable, List, NamedTuple, Set, Tuple
+from operator import itemgetter
+from typing import FrozenSet, Iterable, Iterator, List, NamedTuple, Set, Tuple
 
 from ..files import Source
 from ..token_texts import tokens_of
@@ -46,12 +47,9 @@ def silenced_in(query: str) -> List[Silenced]:
     """The comments of a query that silence findings, with their places there."""
     if "promql:" not in query:
         return []
-    comments = [token for token in tokens_of(query) if token.kind == "comment"]
-    return [
-        found._replace(start=token.start + found.start, end=token.start + found.end)
-        for token in comments
-        for found in silenced_by(token.text)
-    ]
+    comments = (token for token in tokens_of(query) if token.kind == "comment")
+    placed = ((token.start, found) for token in comments for found in silenced_by(token.text))
+    return [found._replace(start=begin + found.start, end=begin + found.end) for begin, found in placed]
 
 
 def silenced_by(line: str) -> List[Silenced]:
@@ -94,15 +92,12 @@ class Silences:
         # The codes of all findings.
         self._found: Set[str] = set()
         # Where the lines begin that comments are about, in their order, and the comments. One that is above a rule is about two lines.
-        self._abouts: List[int] = []
-        self._comments: List[Comment] = []
-        if "promql:" in source.text:
-            self._read(source.text)
-        order = sorted(range(len(self._abouts)), key=self._abouts.__getitem__)
+        placed = sorted(self._read(source.text) if "promql:" in source.text else (), key=itemgetter(0))
+        self._abouts, self._comments = [about for about, _ in placed], [comment for _, comment in placed]
         self._codes_of_file = ignored_by(word for comment in self._of_file for word in comment.words)
-        self._abouts, self._comments = [self._abouts[at] for at in order], [self._comments[at] for at in order]
 
-    def _read(self, text: str) -> None:
+    def _read(self, text: str) -> Iterator[Tuple[int, Comment]]:
+        """The comments that are not of the whole file, with where the lines begin that they are about."""
         waiting: List[Comment] = []
         for line in _LINE.finditer(text):
             bare = line[0].strip()
@@ -114,15 +109,10 @@ class Silences:
             if is_comment:
                 # (in a block of YAML this may be a comment of the query, which is about the query)
                 waiting += comments
-                self._put(line.start(), comments)
+                yield from ((line.start(), comment) for comment in comments)
             elif bare:
-                self._put(line.start(), waiting + comments)
+                yield from ((line.start(), comment) for comment in waiting + comments)
                 waiting = []
-
-    def _put(self, about: int, comments: List[Comment]) -> None:
-        """Keeps comments about the line that begins there."""
-        self._abouts += [about] * len(comments)
-        self._comments += comments
 
     def between(self, start: int, end: int) -> Ignored:
         """What is silenced in the lines of this part of the file."""

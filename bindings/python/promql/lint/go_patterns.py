@@ -196,17 +196,14 @@ class _Reader:
             found = form.match(self._pattern, self._at + (base == 16))
             if found and (base == 8 or letter == "x"):
                 self._at = found.end()
-                return self._of_code(int(found[0].strip("{}"), base))
+                code = int(found[0].strip("{}"), base)
+                if code > _LAST_CHARACTER:
+                    raise GoError(f"there is no character {code:x}")
+                return chr(code)
         if not letter or letter not in _LETTERS and (not letter.isascii() or letter.isalnum()):
             raise GoError(f"it knows no `\\{letter}`")
         self._at += 1
         return letter.translate(str.maketrans(_LETTERS, "\a\f\n\r\t\v"))
-
-    @staticmethod
-    def _of_code(code: int) -> str:
-        if code > _LAST_CHARACTER:
-            raise GoError(f"there is no character {code:x}")
-        return chr(code)
 
     def _class(self) -> None:
         self._at += 2 if self._rest("[^") else 1

@@ -123,9 +123,8 @@ def matcher_without_label(subject: Subject) -> Iterator[Remark]:
         lacked = recorded.lacked(frozenset(it.name for it in subject.matchers(node))) if recorded else ()
         for matcher in subject.matchers(node) if lacked and "or_matchers" not in node else ():
             if matcher.name in lacked and matcher.name != NAME and needs_value(matcher.tree):
-                place = subject.matcher_place(node, matcher)
                 message = f"no series match: the rule that records `{name}` keeps no label `{matcher.name}`"
-                yield Remark(place.whole if place else subject.span(node), message)
+                yield Remark(subject.matcher_span(node, matcher), message)
 
 
 @rule("P407", "one-sided-label", Severity.ERROR, needs="binaryExpr")

@@ -6,18 +6,16 @@ import re
 from typing import Dict, Iterator, List, Optional, Tuple
 
 from . import patterns
-from .findings import Fix, Remark, Severity, Span, TextEdit, Tree, requoted
+from .findings import Fix, Remark, Severity, TextEdit, Tree, requoted
 from .go_patterns import why_rejected
 from .subject import SeenMatcher, Subject
 from .table import rule
 
 _COMMA_AFTER = re.compile(r"\s*,\s*")
 _OF_PATTERNS = {"=~": "=", "!~": "!="}
-# A selector, and its matchers that all have to hold.
-_Group = Tuple[Tree, List[SeenMatcher]]
 
 
-def _groups(subject: Subject) -> Iterator[_Group]:
+def _groups(subject: Subject) -> Iterator[Tuple[Tree, List[SeenMatcher]]]:
     """The groups of matchers of each selector, without those whose value is not as it was written."""
     for node in subject.selectors:
         for group in subject.matcher_groups(node):
@@ -28,28 +26,19 @@ def _with_pattern(subject: Subject) -> Iterator[Tuple[Tree, SeenMatcher]]:
     return ((node, it) for node, it in subject.written_matchers if it.operator in _OF_PATTERNS)
 
 
-def _span(subject: Subject, node: Tree, matcher: SeenMatcher) -> Span:
-    place = subject.matcher_place(node, matcher)
-    return place.whole if place else subject.span(node)
-
-
 def _shown(matcher: SeenMatcher) -> str:
     return f"{matcher.name}{matcher.operator}{requoted('', matcher.value)}"
 
 
-def _gives_labels(subject: Subject, node: Tree) -> bool:
-    """Whether the matchers of a selector say which labels the result of a call has."""
-    return subject.is_below(node, _is_call_that_gives_labels)
-
-
-def _is_call_that_gives_labels(node: Tree) -> bool:
+def _gives_labels(node: Tree) -> bool:
+    """Whether this is a call whose result has labels that the matchers of a selector say."""
     return node["type"] == "call" and node["func"]["name"] in ("absent", "absent_over_time", "info")
 
 
 def _written_anew(subject: Subject, node: Tree, matcher: SeenMatcher, operator: str, value: str) -> Optional[Fix]:
     """A fix that writes a matcher with another operator and another value."""
     place = subject.matcher_place(node, matcher)
-    if not place or _gives_labels(subject, node):
+    if not place or subject.is_below(node, _gives_labels):
         return None
     edits: List[TextEdit] = []
     if operator != matcher.operator:
@@ -62,23 +51,17 @@ def _written_anew(subject: Subject, node: Tree, matcher: SeenMatcher, operator: 
 def _left_out(subject: Subject, node: Tree, matcher: SeenMatcher) -> Optional[Fix]:
     """A fix that leaves out a matcher of braces without `or`, with a comma beside it."""
     place, braces = subject.matcher_place(node, matcher), subject.place(node).braces
-    if not place or not braces or "or_matchers" in node or _gives_labels(subject, node):
+    if not place or not braces or "or_matchers" in node or subject.is_below(node, _gives_labels):
         return None
-    (start, end), text = place.whole, subject.text
-    if comma := _COMMA_AFTER.match(text, end, braces.end):
+    start, end = place.whole
+    before = subject.text[:start].rstrip()
+    if comma := _COMMA_AFTER.match(subject.text, end, braces.end):
         end = comma.end()
-    elif (before := _before_blanks(text, start, braces.start)) > braces.start and text[before - 1] == ",":
-        start = before - 1
+    elif before.endswith(","):
+        start = len(before) - 1
     elif len(node["matchers"]) == 1 and node["name"] is not None:
         start, end = braces
     return Fix((TextEdit(start, end, ""),), ((matcher.tree, None),))
-
-
-def _before_blanks(text: str, at: int, least: int) -> int:
-    """Where the white space before a place begins."""
-    while at > least and text[at - 1].isspace():
-        at -= 1
-    return at
 
 
 @rule("P101", "pattern-of-go", Severity.ERROR, needs="~")
@@ -87,7 +70,7 @@ def pattern_of_go(subject: Subject) -> Iterator[Remark]:
     for node, matcher in _with_pattern(subject):
         reason = why_rejected(matcher.value)
         if reason:
-            yield Remark(_span(subject, node, matcher), f"Prometheus rejects the pattern: {reason}")
+            yield Remark(subject.matcher_span(node, matcher), f"Prometheus rejects the pattern: {reason}")
 
 
 @rule("P102", "pattern-read-otherwise", Severity.WARNING, needs="~")
@@ -96,7 +79,7 @@ def pattern_read_otherwise(subject: Subject) -> Iterator[Remark]:
     for node, matcher in _with_pattern(subject):
         why = patterns.difference(matcher.value)
         if why and not why_rejected(matcher.value):
-            yield Remark(_span(subject, node, matcher), f"Prometheus reads the pattern otherwise: {why}")
+            yield Remark(subject.matcher_span(node, matcher), f"Prometheus reads the pattern otherwise: {why}")
 
 
 @rule("P103", "pattern-of-one-text", Severity.WARNING, needs="~")
@@ -109,7 +92,7 @@ def pattern_of_one_text(subject: Subject) -> Iterator[Remark]:
         operator = _OF_PATTERNS[matcher.operator]
         wanted = f"{matcher.name}{operator}{requoted('', text)}"
         fix = _written_anew(subject, node, matcher, operator, text)
-        yield Remark(_span(subject, node, matcher), f"the pattern matches one text alone: write `{wanted}`", fix)
+        yield Remark(subject.matcher_span(node, matcher), f"the pattern matches one text alone: write `{wanted}`", fix)
 
 
 @rule("P104", "needless-anchor", Severity.WARNING, needs="~")
@@ -121,7 +104,7 @@ def needless_anchor(subject: Subject) -> Iterator[Remark]:
             continue
         fix = _written_anew(subject, node, matcher, matcher.operator, rest)
         message = "a pattern always has to match the whole value: its anchors are needless"
-        yield Remark(_span(subject, node, matcher), message, fix)
+        yield Remark(subject.matcher_span(node, matcher), message, fix)
 
 
 @rule("P105", "pattern-of-a-part", Severity.INFO, is_default=False, needs="~")
@@ -133,14 +116,14 @@ def pattern_of_a_part(subject: Subject) -> Iterator[Remark]:
         is_of_part = pattern.startswith((".*", ".+")) and pattern.endswith((".*", ".+")) and len(pattern) > 4
         if is_of_part and (len(parts) == 1 or not parts) and pattern[-3] != "\\":
             message = "the pattern looks for a part of the value: it may find more than is meant, and takes longer than others"
-            yield Remark(_span(subject, node, matcher), message)
+            yield Remark(subject.matcher_span(node, matcher), message)
 
 
 def _of_everything(subject: Subject, operator: str, told: str) -> Iterator[Remark]:
     """(without the matcher Prometheus before 3.0 gives series with a line end in the value as well, so there is no fix)"""
     for node, matcher in _with_pattern(subject):
         if matcher.operator == operator and patterns.matches_everything(matcher.value):
-            yield Remark(_span(subject, node, matcher), f"`{_shown(matcher)}` matches {told}")
+            yield Remark(subject.matcher_span(node, matcher), f"`{_shown(matcher)}` matches {told}")
 
 
 @rule("P106", "matches-all", Severity.WARNING, needs="~")
@@ -163,35 +146,32 @@ def _matches(subject: Subject, matcher: SeenMatcher, value: str) -> Optional[boo
     return None if found is None else found == (matcher.operator == "=~")
 
 
-def _by_label(subject: Subject) -> Iterator[Tuple[Tree, SeenMatcher, List[SeenMatcher]]]:
-    """The first `=` of a label in a group of matchers, and the other matchers of that label."""
+def _beside_equal(subject: Subject) -> Iterator[Tuple[Tree, SeenMatcher, SeenMatcher]]:
+    """The first `=` of a label in a group of matchers, with each other matcher of that label."""
     for node, group in _groups(subject):
         labels: Dict[str, List[SeenMatcher]] = {}
         for matcher in group:
             labels.setdefault(matcher.name, []).append(matcher)
         for matchers in labels.values():
-            equal = [it for it in matchers if it.operator == "="]
+            equal = next((it for it in matchers if it.operator == "="), None)
             if equal:
-                yield node, equal[0], [it for it in matchers if it is not equal[0]]
+                yield from ((node, equal, it) for it in matchers if it is not equal)
 
 
 @rule("P108", "matchers-exclude-each-other", Severity.ERROR, needs="{")
 def matchers_exclude_each_other(subject: Subject) -> Iterator[Remark]:
     """Two matchers of a selector that no series matches both."""
-    for node, equal, others in _by_label(subject):
-        for other in others:
-            if _matches(subject, other, equal.value) is False:
-                message = f"no series matches both `{_shown(equal)}` and `{_shown(other)}`"
-                yield Remark(_span(subject, node, other), message)
+    for node, equal, other in _beside_equal(subject):
+        if _matches(subject, other, equal.value) is False:
+            message = f"no series matches both `{_shown(equal)}` and `{_shown(other)}`"
+            yield Remark(subject.matcher_span(node, other), message)
 
 
 @rule("P109", "needless-matcher", Severity.WARNING, needs="{")
 def needless_matcher(subject: Subject) -> Iterator[Remark]:
     """A matcher that every series matches which another one of the selector lets through."""
-    for node, equal, others in _by_label(subject):
-        for other in others:
-            if _matches(subject, other, equal.value):
-                is_alone = not (other.operator == "=~" and patterns.matches_everything(other.value))
-                message = f"`{_shown(equal)}` is there, so `{_shown(other)}` says nothing more: leave it out"
-                if is_alone:
-                    yield Remark(_span(subject, node, other), message, _left_out(subject, node, other))
+    for node, equal, other in _beside_equal(subject):
+        # (of what matches everything P106 tells)
+        if _matches(subject, other, equal.value) and not (other.operator == "=~" and patterns.matches_everything(other.value)):
+            message = f"`{_shown(equal)}` is there, so `{_shown(other)}` says nothing more: leave it out"
+            yield Remark(subject.matcher_span(node, other), message, _left_out(subject, node, other))

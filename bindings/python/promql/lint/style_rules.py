@@ -28,12 +28,9 @@ def needless_parentheses(subject: Subject) -> Iterator[Remark]:
 def _without(query: str, span: Span) -> Tuple[TextEdit, ...]:
     """Edits that take parentheses away, with the white space in them, but for what ends a comment."""
     start, end = span
-    first, last = start + 1, end - 1
-    while first < last and query[first].isspace():
-        first += 1
-    blank = last
-    while first < blank and query[blank - 1].isspace():
-        blank -= 1
+    last = end - 1
+    inside = query[start + 1 : last]
+    first, blank = last - len(inside.lstrip()), start + 1 + len(inside.rstrip())
     # (what ends the line ends a comment as well)
     if "#" not in query or "#" not in query[query.rfind("\n", 0, blank) + 1 : blank] or query[end:].lstrip(" \t\r")[:1] in ("", "\n"):
         last = blank

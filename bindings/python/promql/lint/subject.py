@@ -293,6 +293,11 @@ class Subject:
             self._matcher_places[id(node)] = {id(it): place for it, place in places}
         return self._matcher_places[id(node)][id(matcher.tree)]
 
+    def matcher_span(self, node: Tree, matcher: SeenMatcher) -> Span:
+        """Where a matcher of a selector is, or the selector, where it has no place."""
+        place = self.matcher_place(node, matcher)
+        return place.whole if place else self.span(node)
+
     @cached_property
     def written_matchers(self) -> List[Tuple[Tree, SeenMatcher]]:
         """The matchers of all selectors, with these, but for those whose value is not as it was written."""
