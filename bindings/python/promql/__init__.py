@@ -239,9 +239,7 @@ def set_target(name: str) -> None:
 _limits = {"max_len": 32_768, "max_patterns": 16_000, "max_output": 4_194_304, "max_tree": 4_194_304}
 
 
-def set_limits(
-    *, max_len: int = 32_768, max_patterns: int = 16_000, max_output: int = 4_194_304, max_tree: int = 4_194_304
-) -> None:
+def set_limits(*, max_len: int = 32_768, max_patterns: int = 16_000, max_output: int = 4_194_304, max_tree: int = 4_194_304) -> None:
     """Sets what each later query has to be within, in this process: at most so many bytes, and patterns of at most this size together
     (docs/reference/programs.md, "Limits of a query"). A query that is not raises TooLargeError before it is parsed. A matcher that is
     enforced, and the query with it, have the same limits: where they are not within them, `enforce` raises LargeEnforcedError.

@@ -30,9 +30,7 @@ def add_parser(subparsers: Any) -> None:
         metavar="NAME=VALUE",
         help="put VALUE in the place of a variable of dashboards, such as __rate_interval=5m",
     )
-    parser.add_argument(
-        "--queries", action="store_true", help="check queries alone, and not names, labels, durations and templates"
-    )
+    parser.add_argument("--queries", action="store_true", help="check queries alone, and not names, labels, durations and templates")
     add_server_arguments(parser, "that is asked what the queries select there now")
     parser.add_argument("--max-series", type=whole_number, metavar="N", help="warn of a query that reads more series there")
     parser.add_argument("--max-samples", type=whole_number, metavar="N", help="the same of samples")

@@ -163,9 +163,7 @@ class JsonString(NamedTuple):
 class Dashboard(Document):
     """A dashboard. The values of variables are put into the queries, which are then to be checked and no more."""
 
-    def __init__(
-        self, source: Source, variables: Optional[Mapping[str, str]] = None, checker: Optional[QueryChecker] = None
-    ) -> None:
+    def __init__(self, source: Source, variables: Optional[Mapping[str, str]] = None, checker: Optional[QueryChecker] = None) -> None:
         super().__init__(source, checker)
         self._document = _load(source)
         self._paths: List[JsonPath] = []

@@ -157,9 +157,7 @@ def read_document(
     return document
 
 
-def _read(
-    target: Target, is_dashboard: bool, variables: Optional[Mapping[str, str]], checker: QueryChecker
-) -> Optional[Document]:
+def _read(target: Target, is_dashboard: bool, variables: Optional[Mapping[str, str]], checker: QueryChecker) -> Optional[Document]:
     """The document of a file; nothing for a file of a folder that surely is none."""
     source = read_source(target.name)
     try:

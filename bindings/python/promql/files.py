@@ -9,6 +9,7 @@ import signal
 import stat
 import sys
 from array import array
+from bisect import bisect_left
 from contextlib import contextmanager
 from functools import cached_property
 from typing import Iterator, List, NamedTuple, Optional, Tuple
@@ -62,21 +63,11 @@ class LineIndex:
         """Where the line of this number begins, from 0; the end of the text, where there are not so many."""
         if line <= 0:
             return 0
-        step = self._step_of(line)
-        at, rest = step * _STEP, line - self._counts[step]
-        for begin in self._begins_between(at, min(at + _STEP, len(self._text))):
-            rest -= 1
-            if not rest:
-                return begin
-        return len(self._text)
-
-    def _step_of(self, line: int) -> int:
-        """The last step before which fewer lines begin."""
-        low, high = 0, len(self._counts) - 1
-        while low < high:
-            middle = (low + high + 1) // 2
-            low, high = (middle, high) if self._counts[middle] < line else (low, middle - 1)
-        return low
+        # (the last step before which fewer lines begin)
+        step = bisect_left(self._counts, line) - 1
+        begins = self._begins_between(step * _STEP, min((step + 1) * _STEP, len(self._text)))
+        rest = line - self._counts[step]
+        return begins[rest - 1] if rest <= len(begins) else len(self._text)
 
     def _breaks(self, start: int, end: int) -> int:
         """How many lines begin after the first of these places, up to the last one. (A carriage return begins one if no line feed is

@@ -98,15 +98,14 @@ def _tokens(text: str) -> Iterator[_Token]:
     """The tokens of all actions; what is between two of them has none."""
     at = 0
     while found := _LEFT.search(text, at):
-        comment = _COMMENT.match(text, found.end())
-        starts_comment = text.startswith("/*", found.end() + bool(found[1]))
-        if starts_comment:
+        at = found.end() + bool(found[1])
+        if text.startswith("/*", at):
+            comment = _COMMENT.match(text, found.end())
             if not comment:
                 raise TemplateError("a comment that does not end with `*/}}`")
             at = comment.end()
             continue
         yield _Token("{{", "{{")
-        at = found.end() + bool(found[1])
         while not (right := _RIGHT.match(text, at)):
             token, at = _next_token(text, at)
             yield token
@@ -164,10 +163,8 @@ class _Parser:
     def parse(self) -> None:
         while self._peek() is not _END_OF_TEXT:
             if self._peek_after_space(1).kind == "define":
-                self._expect("{{")
-                self._expect("define")
-                self._expect("string")
-                self._expect("}}")
+                for kind in ("{{", "define", "string", "}}"):
+                    self._expect(kind)
                 self._body_of_its_own()
                 continue
             end = self._action()

@@ -150,16 +150,13 @@ class Handler(BaseHTTPRequestHandler):
             raise _Rejection(HTTPStatus.LENGTH_REQUIRED, "the length of the body is missing")
         if not re.fullmatch(r"[0-9]{1,18}", length):
             raise _Rejection(HTTPStatus.BAD_REQUEST, "the length of the body is not a number")
-        body = self._read(min(int(length), _MAX_SKIPPED))
+        try:
+            body = self.rfile.read(min(int(length), _MAX_SKIPPED))
+        except socket.timeout:
+            raise _Rejection(HTTPStatus.REQUEST_TIMEOUT, "the body did not come in time") from None
         if int(length) > MAX_BODY:
             raise _Rejection(HTTPStatus.REQUEST_ENTITY_TOO_LARGE, f"the body has more than {MAX_BODY:,} bytes")
         return body
-
-    def _read(self, count: int) -> bytes:
-        try:
-            return self.rfile.read(count)
-        except socket.timeout:
-            raise _Rejection(HTTPStatus.REQUEST_TIMEOUT, "the body did not come in time") from None
 
     def _send_json(self, status: HTTPStatus, value: Dict[str, Any]) -> None:
         self._send(status, "application/json", json.dumps(value).encode())

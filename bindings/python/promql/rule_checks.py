@@ -7,7 +7,7 @@ lists.
 from __future__ import annotations
 
 import re
-from typing import Dict, FrozenSet, Iterator, List, Match, Optional, Sequence, Set, Tuple
+from typing import Dict, FrozenSet, Iterator, List, Match, Optional, Set, Tuple
 
 from .checked_queries import Budget
 from .files import Fault
@@ -140,9 +140,8 @@ class RuleChecks:
         if identity not in self._rules:
             self._rules.add(identity)
         elif identity[0] and self._is_new("same", rule):
-            self.warnings.append(
-                Fault(rule.start, rule.start, "warning: a rule with this name and these labels is there before")
-            )
+            message = "warning: a rule with this name and these labels is there before"
+            self.warnings.append(Fault(rule.start, rule.start, message))
 
     def look_at_fields(self, mapping: Node, part: str, fields: FrozenSet[str]) -> None:
         """Complains of fields that are unknown or there twice, also in what is merged."""
@@ -178,7 +177,7 @@ class RuleChecks:
         if value.kind != "mapping":
             self._complain(value, f"`{name}` is not a mapping")
             return False
-        entries = self._labels(owner, name)
+        entries = self._mappings.entries(value)
         if self._is_new(f"{name}, {is_template}", value):
             self._look_at_keys(value)
             for part in self._merged(value):
@@ -186,10 +185,6 @@ class RuleChecks:
             for key, text in entries:
                 self._look_at_label(key, text, name, is_template)
         return bool(entries)
-
-    def _labels(self, owner: Node, name: str) -> Sequence[Tuple[Node, Node]]:
-        value = self._mappings.value(owner, name)
-        return self._mappings.entries(value) if value and value.kind == "mapping" else []
 
     def _look_at_label(self, key: Node, value: Node, name: str, is_template: bool) -> None:
         one = "an annotation" if name == "annotations" else "a label"

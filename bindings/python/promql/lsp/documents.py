@@ -206,12 +206,8 @@ def query_problems(text: str, settings: Settings) -> List[Problem]:
     return lint_problems(given_query(text), settings.selection) if settings.lints and text.strip() else []
 
 
-def diagnostics(document: Document, problems: List[Problem]) -> List[Any]:
-    """The problems as the protocol has them."""
-    return [diagnostic(document, problem) for problem in problems]
-
-
 def diagnostic(document: Document, problem: Problem) -> Any:
+    """A problem as the protocol has it."""
     place = document.lines.range(problem.start, problem.end)
     found = {"range": place, "severity": problem.severity, "source": "promql", "message": problem.message}
     if problem.code:

@@ -122,10 +122,8 @@ def on_hover(workspace: Workspace, params: Any) -> Any:
         rule = next(rule for rule in document.rules if rule.record_start == start)
         for query in rule.queries[:1]:
             text += f"\n\nRecorded as\n```promql\n{query.shown(query.text)}\n```"
-    return {
-        "contents": {"kind": "markdown", "value": text},
-        "range": at.document.range_in(at.place.query, found.start, found.end),
-    }
+    place = at.document.range_in(at.place.query, found.start, found.end)
+    return {"contents": {"kind": "markdown", "value": text}, "range": place}
 
 
 def on_completion(workspace: Workspace, params: Any) -> Any:
@@ -156,17 +154,9 @@ def on_signature_help(workspace: Workspace, params: Any) -> Any:
     if not found:
         return None
     function, active = found
-    return {
-        "signatures": [
-            {
-                "label": function.signature,
-                "documentation": function.sentence,
-                "parameters": [{"label": span} for span in _parameter_spans(function)],
-            }
-        ],
-        "activeSignature": 0,
-        "activeParameter": active,
-    }
+    parameters = [{"label": span} for span in _parameter_spans(function)]
+    shown = {"label": function.signature, "documentation": function.sentence, "parameters": parameters}
+    return {"signatures": [shown], "activeSignature": 0, "activeParameter": active}
 
 
 def _parameter_spans(function: Function) -> List[List[int]]:

@@ -3,7 +3,7 @@
 from __future__ import annotations
 
 import re
-from bisect import bisect_right
+from bisect import bisect_left, bisect_right
 from functools import lru_cache
 from typing import Iterable, Iterator, List, NamedTuple, Optional, Sequence, Tuple, Union
 
@@ -145,17 +145,13 @@ def rules_of(file: Union[Dashboard, RuleFile]) -> List[Rule]:
     if isinstance(file, Dashboard):
         return list(map(_lone, queries))
     found: List[Rule] = []
-    used = 0
+    starts, used = [query.start for query in queries], 0
     for node in sorted(file.rules(), key=lambda rule: rule.start):
         end, is_whole = end_of(node)
-        while used < len(queries) and queries[used].start < node.start:
-            found.append(_lone(queries[used]))
-            used += 1
-        own: List[PlacedQuery] = []
-        while used < len(queries) and queries[used].start < end:
-            own.append(queries[used])
-            used += 1
-        found.append(_rule(file, node, end, is_whole, own, text))
+        first = bisect_left(starts, node.start, used)
+        found += map(_lone, queries[used:first])
+        used = bisect_left(starts, end, first)
+        found.append(_rule(file, node, end, is_whole, queries[first:used], text))
     found += map(_lone, queries[used:])
     return sorted([*found, *_recorded_in_texts(file)], key=lambda rule: rule.start) if file.texts else found
 

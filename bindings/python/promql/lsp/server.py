@@ -14,7 +14,7 @@ import promql
 
 from ..files import FileError
 from ..queries import Edit
-from .documents import TOO_LARGE, Document, diagnostics, query_problems
+from .documents import TOO_LARGE, Document, diagnostic, query_problems
 from .features import ABOUT_ALL, ABOUT_PLACES, CAPABILITIES, Asking, Later, Workspace, text_edits, uri_of, where
 from .findings import ERROR, WARNING, Problem
 from .layout import LeftError, lines_edits, node_edits, query_edits
@@ -280,7 +280,7 @@ class Server:
         settings = document.settings
         faults = [Problem(0, 0, WARNING, settings.fault)] if settings.fault else []
         document.problems, document.is_told = faults + ([] if settings.is_left_out else problems), True
-        self._publish(document.uri, document.version, diagnostics(document, document.problems))
+        self._publish(document.uri, document.version, [diagnostic(document, it) for it in document.problems])
 
     def _publish(self, uri: str, version: Optional[int], found: List[Any]) -> None:
         params: Dict[str, Any] = {"uri": uri, "diagnostics": found}
