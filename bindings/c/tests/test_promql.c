@@ -262,7 +262,7 @@ static void test_enforcing(void)
     CHECK(gives(enforcing("\xff\xff", 1), PROMQL_NOT_UTF8, "input is not UTF-8"));
     CHECK(gives(enforcing("foo", 0), PROMQL_BAD_MATCHER, "not a matcher: 1:1: it is empty"));
     CHECK(gives(enforcing("fooa=\"1\"} or x{b=\"2\"", 18), PROMQL_BAD_MATCHER,
-                "not a matcher: 1:6: unexpected \"}\", a matcher has no braces"));
+                "not a matcher: 1:7: unexpected \"}\", a matcher has no braces"));
     CHECK(gives(enforcing("foo\xff", 1), PROMQL_BAD_MATCHER, "not a matcher"));
     CHECK(gives(enforcing("foo__name__=\"bar\"", 14), PROMQL_BAD_MATCHER, "a matcher of the metric name cannot be enforced"));
     CHECK(gives(enforcing("\xff" "a=\"1\"", 5), PROMQL_NOT_UTF8, "input is not UTF-8"));
