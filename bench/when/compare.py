@@ -194,7 +194,7 @@ def in_parts(server: meaning.Prometheus, asked: Asked, query: str) -> Tuple[str,
 
 def is_settled(server: meaning.Prometheus, asked: Asked) -> bool:
     """Whether the server gives one answer: of equal values `topk` and `bottomk` take any, another one each time."""
-    return len({evaluate(server, asked) for _ in range(8)}) == 1
+    return len({evaluate(server, asked) for _ in range(40)}) == 1
 
 
 def compare(servers: List[meaning.Prometheus], asked: Asked, answer: Told, counts: Counter[str], failed: List[Tuple]) -> None:
