@@ -19,7 +19,7 @@ abbrev Reads : Type 0
 Reads = List (Selector × Window)
 
 -- a call that does not depend on the time is none of `info`
-second_false : (a b c : Bool) → not (a || (b || c)) ≡ true → b ≡ false
+pub second_false : (a b c : Bool) → not (a || (b || c)) ≡ true → b ≡ false
 second_false false false c is = refl
 second_false false true c is = absurd (true≢false (sym is))
 second_false true b c is = absurd (true≢false (sym is))
@@ -31,12 +31,12 @@ no_info : (b : Bool) (rs : Reads) → b ≡ false → cond b rs [] ≡ []
 no_info b rs is = ap (λ b. cond b rs []) is
 
 module _ (ts : Times) (x y : ℤ) where
-  same_moment : (m : Moment) → moment ts (Some m) x ≡ moment ts (Some m) y
+  pub same_moment : (m : Moment) → moment ts (Some m) x ≡ moment ts (Some m) y
   same_moment at_start = refl
   same_moment at_end = refl
   same_moment (at_time t) = refl
 
-  same_window : (offset : Option Shift) (m : Moment) (before after : ℕ)
+  pub same_window : (offset : Option Shift) (m : Moment) (before after : ℕ)
       → around ts offset (Some m) before after (instant x) ≡ around ts offset (Some m) before after (instant y)
   same_window offset m before after =
       let same = ap (shifted offset) (same_moment m) in

@@ -35,23 +35,23 @@ module _ (ts : Times) (start end : ℤ) (step : ℕ) where
   abbrev all_pin : Reads → Reads
   all_pin = map (λ r. (pinned_selector ts.start ts.end r.0, r.1))
 
-  same_moment : (at : Option Moment) (x : ℤ) → moment other (pin_at at) x ≡ moment ts at x
+  pub same_moment : (at : Option Moment) (x : ℤ) → moment other (pin_at at) x ≡ moment ts at x
   same_moment None x = refl
   same_moment (Some at_start) x = refl
   same_moment (Some at_end) x = refl
   same_moment (Some (at_time t)) x = refl
 
-  same_base : (offset : Option Shift) (at : Option Moment) (x : ℤ) → base other offset (pin_at at) x ≡ base ts offset at x
+  pub same_base : (offset : Option Shift) (at : Option Moment) (x : ℤ) → base other offset (pin_at at) x ≡ base ts offset at x
   same_base offset at x = ap (shifted offset) (same_moment at x)
 
-  same_window : (offset : Option Shift) (at : Option Moment) (before after : ℕ) (w : Window)
+  pub same_window : (offset : Option Shift) (at : Option Moment) (before after : ℕ) (w : Window)
       → around other offset (pin_at at) before after w ≡ around ts offset at before after w
   same_window offset at before after w =
       let low = same_base offset at w.first in
       let high = same_base offset at w.last in
       λ i. record { first = (low i -ℤ pos before) +ℤ pos (opening ts); last = high i +ℤ pos after }
 
-  same_range : (offset : Option Shift) (at : Option Moment) (range : ℕ) (mode : RangeMode) (w : Window)
+  pub same_range : (offset : Option Shift) (at : Option Moment) (range : ℕ) (mode : RangeMode) (w : Window)
       → around other offset (pin_at at) (range + before_range other mode) (after_range other mode) w
       ≡ around ts offset at (range + before_range ts mode) (after_range ts mode) w
   same_range offset at range Plain w = same_window offset at (range + 0) 0 w
