@@ -15,3 +15,4 @@ pub mod ErrorPlacing
 pub mod Columns
 pub mod VisibleTexts
 mod TokenRanges
+mod WithoutTilde

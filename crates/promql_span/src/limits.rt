@@ -1,7 +1,9 @@
 //! The limits of a query, which are checked before it is parsed and anything of it is compiled, and of what is printed of it:
 //! docs/reference/programs.md, "Limits of a query".
 
-ghost use Rattle.std.specs.Prelude.{◌≡◌, ◌++◌, ◌-◌, ◌^◌, ◌&&◌, ◌==◌, [], ◌∷◌, drop, if◌then◌else◌, length, min, ℕ, IfErr, IfOk, List, MatchOption, OnOk};
+ghost use Rattle.std.specs.Prelude.{◌≡◌, ◌++◌, ◌-◌, ◌^◌, ◌&&◌, ◌==◌, [], ◌∷◌, drop, false, if◌then◌else◌, length, min, ℕ, IfErr, IfOk, List, MatchOption, OnOk};
+ghost use Rattle.std.specs.List.{list_any};
+ghost use Rattle.promql_text.specs.Texts.{code};
 ghost use Rattle.std.specs.Prelude.{◌<◌, ◌≤◌};
 ghost use Rattle.promql_span.specs.MeasuredTokens.{AreMeasured};
 ghost use Rattle.promql_span.specs.PlacedTokens.{first_span, placed_tokens};
@@ -153,8 +155,17 @@ impl From<AllocError> for LimitFault {
     }
 }
 
+/// Whether a query may have a pattern: the operators before patterns have a tilde.
+pub fn may_have_pattern(query: &str) -> bool
+    ensures tilde { result ≡ list_any (λ b. b == code "~") query.now }
+    ensures none { result ≡ false → spec.patterns_size query.now ≡ 0 }
+{
+    query.as_bytes().contains(&b'~')
+}
+
 /// Checks that a query is within its limits. Each string directly after `=~` or `!~`, up to a lexical fault, is a pattern.
-/// The text is lexed once, and once more up to the pattern of a fault; a string is unquoted, and no pattern is compiled.
+/// Where it may have one, the text is lexed once, and once more up to the pattern of a fault; a string is unquoted, and no pattern is
+/// compiled.
 ///
 /// # Errors
 ///
@@ -170,6 +181,9 @@ pub fn check_limits(alloc: Global, text: &str, limits: &Limits) -> Result<(), Li
             len,
             most: limits.max_len,
         });
+    }
+    if !may_have_pattern(text) {
+        return Ok(());
     }
     match inspect_tokens(alloc, &limits.for_rules(), text)?.limit_fault(limits) {
         None => Ok(()),
