@@ -1,2 +1,3 @@
 pub mod FoundRefusals
+mod NoDifferences
 pub mod NoRefusals

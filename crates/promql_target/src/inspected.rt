@@ -1,13 +1,13 @@
 //! All that one pass over the tokens of a query tells of it: docs/reference/programs.md, "Limits of a query" and "Targets".
 
-ghost use Rattle.std.specs.Prelude.{◌≡◌, ◌≤◌, IfErr, IfOk, length};
+ghost use Rattle.std.specs.Prelude.{◌≡◌, ◌≤◌, IfErr, IfOk, length, true};
 ghost use Rattle.promql_span.specs.Differences.{difference};
-ghost use Rattle.promql_span.specs.QueryLimits.{IsLimitFault, IsWithin};
+ghost use Rattle.promql_span.specs.QueryLimits.{IsLimitFault, IsWithin, patterns_size};
 ghost use Rattle.promql_span.specs.declared.target.Target.TheVariants.{Rules};
 ghost use Rattle.promql_target.specs.Refusals as spec;
 
 use crate::refusal::{FoundRefusal, Refusal};
-use promql_span::limits::{LimitFault, Limits};
+use promql_span::limits::{LimitFault, Limits, may_have_pattern};
 use promql_span::{Difference, Inspection, Printed, Target};
 use promql_token::cursor::Cursor;
 use std::alloc::Global;
@@ -31,7 +31,18 @@ fn checked_by(printed: Printed, target: Target) -> Target
     }
 }
 
-/// What the target makes of a query, where the query is within its limits. The tokens up to a lexical fault are looked at once.
+/// Whether a pass over the tokens of a query finds nothing: these rules alone read it, and it has no pattern.
+fn has_nothing_to_find(limits: &Limits, query: &str) -> bool
+    ensures { result ≡ true → (limits.now.target ≡ Rules) × (patterns_size query.now ≡ 0) }
+{
+    match limits.target {
+        Target::Rules => !may_have_pattern(query),
+        Target::Prometheus2 | Target::Prometheus3 => false,
+    }
+}
+
+/// What the target makes of a query, where the query is within its limits. The tokens up to a lexical fault are looked at once, where these
+/// rules are not all that reads it, or it may have a pattern.
 ///
 /// # Errors
 ///
@@ -46,6 +57,12 @@ pub fn inspect(alloc: Global, limits: &Limits, query: &str) -> Result<Inspected,
     let most = limits.max_len;
     if len > most {
         return Err(LimitFault::TooLong { len, most });
+    }
+    if has_nothing_to_find(limits, query) {
+        return Ok(Inspected {
+            difference: None,
+            refusal: None,
+        });
     }
     match checked_by(limits.printed, limits.target) {
         Target::Rules => inspect_printed(alloc, limits, query),
