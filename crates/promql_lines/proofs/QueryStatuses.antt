@@ -35,6 +35,7 @@ numbers_are_own error.MetricName = refl
 numbers_are_own error.Clash = refl
 numbers_are_own (error.TimeOverflow node) = refl
 numbers_are_own error.GridFunction = refl
+numbers_are_own (error.NotLabels fault) = refl
 
 pub not_status : (e : QueryError) (n : ℕ) → is_own n ≡ false → ¬ (query_error_number e ≡ n)
 not_status e n none is = let same : true ≡ false = sym (numbers_are_own e) ∙ ap is_own is ∙ none in cc
@@ -70,6 +71,7 @@ three_is_not_utf8 error.MetricName three = cc
 three_is_not_utf8 error.Clash three = cc
 three_is_not_utf8 (error.TimeOverflow node) three = cc
 three_is_not_utf8 error.GridFunction three = cc
+three_is_not_utf8 (error.NotLabels fault) three = cc
 
 -- what is written ends with 0 or 5
 abbrev pub is_written : ℕ → Bool

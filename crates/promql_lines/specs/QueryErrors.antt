@@ -47,6 +47,7 @@ query_error_number error.Clash = 22
 query_error_number (error.MatcherOtherwise at) = 23
 query_error_number (error.TimeOverflow node) = 25
 query_error_number error.GridFunction = 26
+query_error_number (error.NotLabels fault) = 27
 
 -- the query that is rejected, where that is the error
 abbrev pub rejected_in : QueryError → Option RejectedQuery

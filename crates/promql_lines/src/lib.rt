@@ -6,6 +6,7 @@ pub mod answer_text;
 pub mod batch;
 pub mod enforced_line;
 pub mod formatted_query;
+pub mod labels_fault;
 mod limit_checks;
 pub mod line;
 mod line_within;

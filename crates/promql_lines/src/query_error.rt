@@ -6,6 +6,7 @@ ghost use Rattle.promql_report.specs.Rejecting.{IsRejection};
 ghost use Rattle.promql_lines.specs.QueryErrors.{ReadsQuery, query_error_number, rejected_in};
 ghost use Rattle.promql_span.specs.declared.limits.Limits as spans;
 
+use crate::labels_fault::LabelsFault;
 use crate::read_form::LargeForm;
 use crate::rejected_query::RejectedQuery;
 use crate::request_fault::RequestFault;
@@ -113,6 +114,9 @@ pub enum QueryError {
     /// The query is to be pinned, and calls `start`, `end`, `step` or `range`.
     #[error("a call of `start`, `end`, `step` or `range` depends on the times of the whole query")]
     GridFunction,
+    /// What is given as the labels of a series is none.
+    #[error("the labels are {0}")]
+    NotLabels(LabelsFault),
 }
 
 impl QueryError {
@@ -154,6 +158,7 @@ impl QueryError {
             QueryError::MatcherOtherwise(_) => 23,
             QueryError::TimeOverflow(_) => 25,
             QueryError::GridFunction => 26,
+            QueryError::NotLabels(_) => 27,
         }
     }
 
@@ -186,7 +191,8 @@ impl QueryError {
             | QueryError::MetricName
             | QueryError::Clash
             | QueryError::TimeOverflow(_)
-            | QueryError::GridFunction => None,
+            | QueryError::GridFunction
+            | QueryError::NotLabels(_) => None,
         }
     }
 }
