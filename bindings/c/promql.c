@@ -58,12 +58,16 @@ void call_tokens(const struct limits *limits, const void *text, size_t text_leng
                  size_t buffer_size, struct promql_result *result);
 void call_windows(const struct limits *limits, const void *query, size_t query_length, const struct promql_times *times,
                   void *buffer, size_t buffer_size, struct promql_result *result);
+void call_reaches(const struct limits *limits, const void *query, size_t query_length, const struct promql_times *times,
+                  void *buffer, size_t buffer_size, struct promql_result *result);
 void call_last_read(const struct limits *limits, const void *query, size_t query_length, int64_t time,
                     const struct promql_times *times, void *buffer, size_t buffer_size, struct promql_result *result);
 void call_pinned(const struct limits *limits, const void *query, size_t query_length, int64_t start, int64_t end, void *buffer,
                  size_t buffer_size, struct promql_result *result);
 void call_is_constant(const struct limits *limits, const void *query, size_t query_length, void *buffer,
                       size_t buffer_size, struct promql_result *result);
+void call_may_read(const struct limits *limits, const void *query, size_t query_length, const void *labels, size_t labels_length,
+                   void *buffer, size_t buffer_size, struct promql_result *result);
 void call_check(const struct limits *limits, const void *query, size_t query_length, void *buffer,
                 size_t buffer_size, struct promql_result *result);
 void call_explain(const struct limits *limits, const void *query, size_t query_length, uint32_t as_json, void *buffer,
@@ -337,6 +341,17 @@ uint32_t promql_windows(const char *query, size_t query_length, const struct pro
     return result->status;
 }
 
+uint32_t promql_reaches(const char *query, size_t query_length, const struct promql_times *times, char *buffer, size_t buffer_size,
+                        struct promql_result *result)
+{
+    uint32_t status = times != NULL ? look_at(query, query_length, buffer, buffer_size, result) : PROMQL_BAD_POINTER;
+    if (status != PROMQL_OK)
+        return refuse(status, result);
+    struct limits limits = limits_now();
+    call_reaches(&limits, start_of(query), query_length, times, room_of(buffer), buffer_size, result);
+    return result->status;
+}
+
 uint32_t promql_last_read(const char *query, size_t query_length, int64_t time, const struct promql_times *times, char *buffer,
                           size_t buffer_size, struct promql_result *result)
 {
@@ -367,6 +382,18 @@ uint32_t promql_is_constant(const char *query, size_t query_length, char *buffer
         return refuse(status, result);
     struct limits limits = limits_now();
     call_is_constant(&limits, start_of(query), query_length, room_of(buffer), buffer_size, result);
+    return result->status;
+}
+
+uint32_t promql_may_read(const char *query, size_t query_length, const char *labels, size_t labels_length, char *buffer,
+                         size_t buffer_size, struct promql_result *result)
+{
+    uint32_t status = is_slice(labels, labels_length) ? look_at(query, query_length, buffer, buffer_size, result)
+                                                      : PROMQL_BAD_POINTER;
+    if (status != PROMQL_OK)
+        return refuse(status, result);
+    struct limits limits = limits_now();
+    call_may_read(&limits, start_of(query), query_length, start_of(labels), labels_length, room_of(buffer), buffer_size, result);
     return result->status;
 }
 

@@ -39,7 +39,7 @@ static void *allocate(size_t size)
 
 /* A call with its arguments. */
 enum call { CALL_PRINT, CALL_CANONICAL, CALL_CHECK, CALL_SNIPPET, CALL_ENFORCE, CALL_COLLECT, CALL_PRINT_TREE, CALL_EXPLAIN, CALL_PLACES, CALL_PARTS,
-            CALL_TOKENS, CALL_DIFFERENCES, CALL_WINDOWS, CALL_LAST_READ, CALL_PINNED, CALL_IS_CONSTANT };
+            CALL_TOKENS, CALL_DIFFERENCES, CALL_WINDOWS, CALL_REACHES, CALL_LAST_READ, CALL_PINNED, CALL_IS_CONSTANT, CALL_MAY_READ };
 
 /* Those of each call that has times: 1,000, 1,200 and 1,400 seconds. */
 static struct promql_times times = {1000000, 1500000, 200000, 300000, 60000, 0};
@@ -71,12 +71,16 @@ static uint32_t make_call(const struct request *r, char *buffer, size_t size, st
         return promql_differences(r->query, r->length, buffer, size, result);
     case CALL_WINDOWS:
         return promql_windows(r->query, r->length, &times, buffer, size, result);
+    case CALL_REACHES:
+        return promql_reaches(r->query, r->length, &times, buffer, size, result);
     case CALL_LAST_READ: /* (at the first time) */
         return promql_last_read(r->query, r->length, times.start, &times, buffer, size, result);
     case CALL_PINNED:
         return promql_pinned(r->query, r->length, times.start, times.end, buffer, size, result);
     case CALL_IS_CONSTANT:
         return promql_is_constant(r->query, r->length, buffer, size, result);
+    case CALL_MAY_READ: /* (the last `end` bytes are the labels) */
+        return promql_may_read(r->query, r->length - r->end, r->query + (r->length - r->end), r->end, buffer, size, result);
     case CALL_TOKENS:
         return promql_tokens(r->query, r->length, buffer, size, result);
     case CALL_PRINT_TREE: /* (`end` says whether parentheses are put) */
@@ -179,6 +183,14 @@ static struct request enforcing(const char *text, size_t matcher_length)
 {
     struct request r = of_query(CALL_ENFORCE, text);
     r.end = matcher_length;
+    return r;
+}
+
+/* The text is a query, and at its end the labels of a series in so many bytes. */
+static struct request reading(const char *text, size_t labels_length)
+{
+    struct request r = of_query(CALL_MAY_READ, text);
+    r.end = labels_length;
     return r;
 }
 
@@ -585,6 +597,65 @@ static void test_windows(void)
     struct promql_result result;
     CHECK(promql_windows("a", 1, NULL, NULL, 0, &result) == PROMQL_BAD_POINTER && result.status == PROMQL_BAD_POINTER);
     CHECK(promql_last_read("a", 1, 0, NULL, NULL, 0, &result) == PROMQL_BAD_POINTER && result.status == PROMQL_BAD_POINTER);
+}
+
+/* The reaches are those of `timing.rt` of crates/promql_test_tools. */
+static void test_reaches(void)
+{
+    CHECK(gives(of_query(CALL_REACHES, "1 + time()"), PROMQL_OK, "[]"));
+    CHECK(gives(of_query(CALL_REACHES, "a{b='\xc3\xa9'}[1m] offset -5m"), PROMQL_OK, "[[\"a{b=\\\"\xc3\xa9\\\"} offset -5m\",240000,300000,false]]"));
+    CHECK(gives(of_query(CALL_REACHES, "rate(a[5m] smoothed)"), PROMQL_OK, "[[\"a\",-600000,300000,false]]"));
+    CHECK(gives(of_query(CALL_REACHES, "a @ end() offset 1m"), PROMQL_OK, "[[\"a @ end() offset 1m\",1140000,1440000,true]]"));
+    CHECK(gives(of_query(CALL_REACHES, "max_over_time((a + b @ 9)[5m:1m] @ 7) + c"), PROMQL_OK,
+                "[[\"a\",-593000,7000,true],[\"b @ 9.000\",-291000,9000,true],[\"c\",-300000,0,false]]"));
+    CHECK(gives(of_query(CALL_REACHES, "info(a offset 1m)"), PROMQL_OK,
+                "[[\"a offset 1m\",-360000,-60000,false],[\"target_info\",-300000,0,false]]"));
+    CHECK(gives(of_query(CALL_REACHES, "a + b @ -9223372036854775.808"), PROMQL_TIME_OVERFLOW,
+                "a time of `b @ -9223372036854775.808` is below -2^63 or above 2^63 - 1 milliseconds"));
+    CHECK(has_place(of_query(CALL_REACHES, "1 +"), 3, 3, 1, 4));
+    times.left_open = 1;
+    CHECK(gives(of_query(CALL_REACHES, "a"), PROMQL_OK, "[[\"a\",-299999,0,false]]"));
+    times.left_open = 0;
+    struct promql_result result;
+    CHECK(promql_reaches("a", 1, NULL, NULL, 0, &result) == PROMQL_BAD_POINTER && result.status == PROMQL_BAD_POINTER);
+}
+
+static void test_may_read(void)
+{
+    /* (where a name comes twice, the last counts) */
+    static const char *const up = "{\"job\":\"web\",\"__name__\":\"up\",\"job\":\"a\\u00e9\",\"team\":\"\"}";
+    static const struct {
+        const char *query, *labels, *text;
+    } rows[] = {
+        {"up{job='a\xc3\xa9'}", up, "true"},
+        {"up{job='web'}", up, "false"},
+        {"up{team='',other=~'x?'}[5m:]", up, "true"},
+        {"down + on () {__name__=~'d.*'}", up, "false"},
+        {"info(down)", "{\"__name__\":\"target_info\"}", "true"},
+        {"{a!='b'}", "{}", "true"},
+        {"up", " { } ", "false"},
+        {"1", up, "false"},
+    };
+    char text[128];
+    for (size_t i = 0; i < sizeof rows / sizeof *rows; i++) {
+        snprintf(text, sizeof text, "%s%s", rows[i].query, rows[i].labels);
+        CHECK(gives(reading(text, strlen(rows[i].labels)), PROMQL_OK, rows[i].text));
+    }
+    static const char *const not_json = "the labels are not JSON, or nested too deeply";
+    static const char *const not_texts = "the labels are not an object whose members are texts";
+    CHECK(gives(reading("up", 0), PROMQL_NOT_LABELS, not_json));
+    CHECK(gives(reading("up{\"a\":\"\\ud800\"}", 14), PROMQL_NOT_LABELS, not_json));
+    CHECK(gives(reading("up{\"a\":\"b\"}}", 10), PROMQL_NOT_LABELS, not_json));
+    CHECK(gives(reading("up[\"a\"]", 5), PROMQL_NOT_LABELS, not_texts));
+    CHECK(gives(reading("up{\"a\":\"b\",\"c\":1}", 15), PROMQL_NOT_LABELS, not_texts));
+    CHECK(has_place(reading("up{\"a\":null}", 10), 0, 0, 0, 0));
+    CHECK(gives(reading("up\xff", 1), PROMQL_NOT_UTF8, "input is not UTF-8"));
+    CHECK(gives(reading("\xff{}", 2), PROMQL_NOT_UTF8, "input is not UTF-8"));
+    /* (the query comes first) */
+    CHECK(gives(reading("1 +[]", 2), PROMQL_REJECTED, "invalid promql query"));
+    CHECK(has_place(reading("1 +[]", 2), 3, 3, 1, 4));
+    struct promql_result result;
+    CHECK(promql_may_read("up", 2, NULL, 1, NULL, 0, &result) == PROMQL_BAD_POINTER && result.status == PROMQL_BAD_POINTER);
 }
 
 static void test_last_read(void)
@@ -1083,6 +1154,8 @@ int main(int argc, char **argv)
         test_parts();
         test_differences();
         test_windows();
+        test_reaches();
+        test_may_read();
         test_last_read();
         test_pinned();
         test_tokens();

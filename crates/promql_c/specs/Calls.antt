@@ -23,10 +23,13 @@ use Rattle.promql_lines.specs.declared.renamed_line.Named.{Named}
 use Rattle.promql_lines.specs.TreeTexts.{PrintsForm}
 use Rattle.promql_run.specs.declared.format.Format.{Format}
 use Rattle.promql_when.specs.Pinned.{asks_grid, pinned}
+use Rattle.promql_when.specs.Reached.{evaluation, reach_overflow}
 use Rattle.promql_when.specs.Reads.{overflow}
 use Rattle.promql_when.specs.Windows.{asked, instant}
 use Rattle.promql_when.specs.declared.times.Times.{Times}
 use Rattle.promql_lines.specs.declared.mode.Mode.{Mode}
+use Rattle.promql_c.specs.ReachesText.{IsReachesText}
+use Rattle.promql_c.specs.SeriesText.{AreNoLabels, IsMayReadText}
 use Rattle.promql_c.specs.TokensText.{GivesTokens}
 use Rattle.promql_c.specs.WindowsText.{IsLastReadText, IsWindowsText, Overflows}
 
@@ -113,3 +116,17 @@ Pins limits start end t = Then (Gives (IsPinnedLine start end t) (λ e. (asks_gr
 
 abbrev pub IsPinnedOf : Limits → ℤ → ℤ → Text → Result Text QueryError → Type 0
 IsPinnedOf limits start end query = OfTexts (IsUtf8 query) (OfTree limits query (Pins limits start end))
+
+-- "reaches": how far each selector of the query's tree reads; or 64 bits do not hold a time of the first node whose reach they do not hold
+abbrev pub GivesReaches : Times → Tree → Result Text QueryError → Type 0
+GivesReaches ts t = Gives (IsReachesText ts t) (Overflows (reach_overflow ts t evaluation))
+
+abbrev pub IsReachesOf : Limits → Times → Text → Result Text QueryError → Type 0
+IsReachesOf limits ts query = OfTexts (IsUtf8 query) (OfTree limits query (GivesReaches ts))
+
+-- "may read": whether the query may read the series with these labels, which are looked at only where the query has a tree
+abbrev pub GivesMayRead : Text → Tree → Result Text QueryError → Type 0
+GivesMayRead labels t = Gives (IsMayReadText labels t) (AreNoLabels labels)
+
+abbrev pub IsMayReadOf : Limits → Text → Text → Result Text QueryError → Type 0
+IsMayReadOf limits query labels = OfTexts (IsUtf8 query × IsUtf8 labels) (OfTree limits query (GivesMayRead labels))

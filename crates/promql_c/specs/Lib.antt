@@ -10,5 +10,7 @@ pub mod FindingsText
 pub mod Formats
 pub mod PartsText
 pub mod PlacesText
+pub mod ReachesText
+pub mod SeriesText
 pub mod TokensText
 pub mod WindowsText

@@ -3,7 +3,7 @@
 ghost use Rattle.std.specs.Prelude.{◌≡◌, ◌==◌, ◌||◌, [], not, Some, Ok};
 ghost use Rattle.promql_c.specs.declared.calls.TheConstants.{SORTED_MATCHERS};
 ghost use Rattle.promql_c.specs.CallResults.{Shows, ShowsSome};
-ghost use Rattle.promql_c.specs.Calls.{IsEnforceOf, IsExplainOf, IsFormattedOf, IsLastReadOf, IsPinnedOf, IsPrintOf, IsRenameOf, IsSnippetOf, IsTextOf, IsTokensOf, IsTreePrintOf, IsWindowsOf};
+ghost use Rattle.promql_c.specs.Calls.{IsEnforceOf, IsExplainOf, IsFormattedOf, IsLastReadOf, IsMayReadOf, IsPinnedOf, IsPrintOf, IsReachesOf, IsRenameOf, IsSnippetOf, IsTextOf, IsTokensOf, IsTreePrintOf, IsWindowsOf};
 ghost use Rattle.promql_c.specs.CollectedTexts.{IsCollectedText};
 ghost use Rattle.promql_c.specs.FindingsText.{IsFindingsText};
 ghost use Rattle.promql_span.specs.Targets.{for_rules};
@@ -21,6 +21,8 @@ use crate::formatting::format_bytes;
 use crate::modes::{format_of, mode_of};
 use crate::placing::{part_query, place_query};
 use crate::printing::{check_query, mark_query, print_query};
+use crate::reaching::reach_query;
+use crate::reading::may_read_query;
 use crate::renaming::{named_of, rename_query};
 use crate::timing::{constant_query, last_read_query, pin_query, window_query};
 use crate::tokens::token_texts;
@@ -152,6 +154,20 @@ pub fn windows(
     show(alloc, made, buffer)
 }
 
+/// Shows how far from the time of evaluation each selector of a query reads, as JSON (docs/guide/bindings.md, "When a query reads").
+pub fn reaches(
+    alloc: Global,
+    limits: &Limits,
+    query: &[u8],
+    times: &Times,
+    buffer: &mut [u8],
+) -> CallResult
+    ensures { ShowsSome (IsReachesOf limits.now times.now query.now) result buffer.old buffer.new }
+{
+    let made = reach_query(alloc, limits, times, query);
+    show(alloc, made, buffer)
+}
+
 /// Shows the last millisecond that a query reads where it is evaluated at this time, as JSON (docs/guide/bindings.md, "When a query
 /// reads").
 pub fn last_read(
@@ -189,6 +205,21 @@ pub fn is_constant(alloc: Global, limits: &Limits, query: &[u8], buffer: &mut [u
     ensures { ShowsSome (IsTextOf IsConstantText limits.now query.now) result buffer.old buffer.new }
 {
     let made = constant_query(alloc, limits, query);
+    show(alloc, made, buffer)
+}
+
+/// Shows whether a query may read a series with these labels, as JSON. The labels are an object of JSON whose members are texts
+/// (docs/guide/bindings.md, "Series that a query may read").
+pub fn may_read(
+    alloc: Global,
+    limits: &Limits,
+    query: &[u8],
+    labels: &[u8],
+    buffer: &mut [u8],
+) -> CallResult
+    ensures { ShowsSome (IsMayReadOf limits.now query.now labels.now) result buffer.old buffer.new }
+{
+    let made = may_read_query(alloc, limits, query, labels);
     show(alloc, made, buffer)
 }
 

@@ -8,7 +8,7 @@ ghost use Rattle.promql_c.specs.CallResults.{Shows, ShowsSome};
 ghost use Rattle.promql_span.specs.Targets.{for_check, for_rules};
 ghost use Rattle.promql_c.specs.CallLimits.{limits_of};
 ghost use Rattle.promql_c.specs.CallTimes.{times_of};
-ghost use Rattle.promql_c.specs.Calls.{IsEnforceOf, IsExplainOf, IsFormattedOf, IsLastReadOf, IsPinnedOf, IsPrintOf, IsRenameOf, IsSnippetOf, IsTextOf, IsTokensOf, IsTreePrintOf, IsWindowsOf};
+ghost use Rattle.promql_c.specs.Calls.{IsEnforceOf, IsExplainOf, IsFormattedOf, IsLastReadOf, IsMayReadOf, IsPinnedOf, IsPrintOf, IsReachesOf, IsRenameOf, IsSnippetOf, IsTextOf, IsTokensOf, IsTreePrintOf, IsWindowsOf};
 ghost use Rattle.promql_c.specs.CollectedTexts.{IsCollectedText};
 ghost use Rattle.promql_c.specs.FindingsText.{IsFindingsText};
 ghost use Rattle.promql_c.specs.Formats.{format_numbered, format_options, mode_numbered, named_numbered};
@@ -36,6 +36,8 @@ mod formatting;
 mod modes;
 mod placing;
 mod printing;
+mod reaching;
+mod reading;
 mod renaming;
 mod timing;
 mod tokens;
@@ -205,6 +207,27 @@ pub extern "C" fn call_windows(
     );
 }
 
+/// `calls::reaches`.
+#[unsafe(no_mangle)]
+pub extern "C" fn call_reaches(
+    alloc: Global,
+    limits: &CallLimits,
+    query: &[u8],
+    times: &CallTimes,
+    buffer: &mut [u8],
+    shown: &mut CallResult,
+)
+    ensures { ShowsSome (IsReachesOf (for_rules (limits_of limits.now)) (times_of times.now) query.now) shown.new buffer.old buffer.new }
+{
+    *shown = calls::reaches(
+        alloc,
+        &limits.limits().for_rules(),
+        query,
+        &times.times(),
+        buffer,
+    );
+}
+
 /// `calls::last_read`.
 #[unsafe(no_mangle)]
 pub extern "C" fn call_last_read(
@@ -263,6 +286,21 @@ pub extern "C" fn call_is_constant(
     ensures { ShowsSome (IsTextOf IsConstantText (for_rules (limits_of limits.now)) query.now) shown.new buffer.old buffer.new }
 {
     *shown = calls::is_constant(alloc, &limits.limits().for_rules(), query, buffer);
+}
+
+/// `calls::may_read`.
+#[unsafe(no_mangle)]
+pub extern "C" fn call_may_read(
+    alloc: Global,
+    limits: &CallLimits,
+    query: &[u8],
+    labels: &[u8],
+    buffer: &mut [u8],
+    shown: &mut CallResult,
+)
+    ensures { ShowsSome (IsMayReadOf (for_rules (limits_of limits.now)) query.now labels.now) shown.new buffer.old buffer.new }
+{
+    *shown = calls::may_read(alloc, &limits.limits().for_rules(), query, labels, buffer);
 }
 
 /// `calls::check`.

@@ -33,7 +33,10 @@ use serde_json::{Value, json};
 use std::alloc::{AllocError, Global};
 
 /// A selector without its range, as it prints.
-fn selector_text(alloc: Global, selector: Option<&VectorSelector>) -> Result<String, AllocError>
+pub(crate) fn selector_text(
+    alloc: Global,
+    selector: Option<&VectorSelector>,
+) -> Result<String, AllocError>
     ensures { IfOk result (λ s. string_bytes s ≡ text (vector (option_map_or (λ v. selector_of v.now) selector.entry target_info))) }
 {
     match selector {
@@ -121,7 +124,7 @@ fn node_text(alloc: Global, node: TimedNode<'_>) -> Result<String, AllocError>
 }
 
 /// The error of a query that has no windows.
-fn error_of(alloc: Global, error: WindowsError<'_>) -> QueryError
+pub(crate) fn error_of(alloc: Global, error: WindowsError<'_>) -> QueryError
     ensures { (found : Option Tree) → IsErrorAt found error.entry → Overflows found result ⊎ (result ≡ QueryError.Memory) }
 {
     match error {

@@ -1,0 +1,13 @@
+use Rattle.std.proofs.Common.{inl, string_bytes, subst}
+use Rattle.promql_grammar.specs.Results.{on_result}
+use Rattle.promql_lines.specs.QueryErrors.{OfTree}
+use Rattle.promql_c.specs.Calls.{GivesReaches}
+use Rattle.promql_c.proofs.reaching.reach_query.Goals as goal
+
+pub returns : goal.returns
+returns c =
+    inl (
+      c.in-Ok.ensures.cases.1,
+      subst (λ query. OfTree c.args.limits.now query (GivesReaches c.args.times.now) (on_result (λ s. string_bytes s) c.reach_text.result))
+          c.in-Ok.ensures.cases.0 c.reach_text.ensures,
+    )
