@@ -8,12 +8,17 @@ import "C"
 import (
 	"encoding/json"
 	"errors"
+	"math"
+	"runtime"
 	"time"
+	"unicode/utf8"
+	"unsafe"
 )
 
 // Errors about when a query reads. Compare with errors.Is.
 var (
-	// ErrTimeOverflow says that 64 bits do not hold a time of a query in milliseconds. An error that is this one shows the node.
+	// ErrTimeOverflow says that 64 bits do not hold a time of a query in milliseconds, or of Reaches, a reach in nanoseconds. An error that
+	// is this one shows the node.
 	ErrTimeOverflow = errors.New("a time is below -2^63 or above 2^63 - 1 milliseconds")
 	// ErrGridFunction says that a query is not pinned: it calls start, end, step or range, whose values are those of the whole query.
 	ErrGridFunction = errors.New("a call of `start`, `end`, `step` or `range` depends on the times of the whole query")
@@ -66,15 +71,64 @@ func Windows(query string, times EvalTimes) ([]Window, error) {
 	if err != nil {
 		return nil, err
 	}
-	shown, err := textOf(query, func(query *C.char, length C.size_t, buffer *C.char, size C.size_t, result *C.struct_promql_result) {
+	return rowsOf[Window](textOf(query, func(query *C.char, length C.size_t, buffer *C.char, size C.size_t, result *C.struct_promql_result) {
 		C.promql_windows(query, length, &made, buffer, size, result)
-	})
+	}))
+}
+
+// Reach says how far from the time of evaluation a selector reads, whatever that time is. Selector is the selector as it prints without its
+// range.
+type Reach struct {
+	Selector string
+	// First and Last are how much later than the time of evaluation the first and the last sample are that it can read; what is below 0 is
+	// earlier. They are 0 where Fixed is not nil.
+	First, Last time.Duration
+	// Fixed is the same at every time: the selector, or a subquery around it, has an @. Of any other it is nil.
+	Fixed *Window
+}
+
+// UnmarshalJSON reads a reach as the library writes it: ["a",-300000,0,false]. The error is ErrTimeOverflow where a time.Duration does not hold
+// it.
+func (r *Reach) UnmarshalJSON(text []byte) error {
+	const most = math.MaxInt64 / int64(time.Millisecond)
+	var first, last int64
+	var fixed bool
+	if err := json.Unmarshal(text, &[]any{&r.Selector, &first, &last, &fixed}); err != nil {
+		return err
+	}
+	switch {
+	case fixed:
+		r.Fixed = &Window{Selector: r.Selector, First: time.UnixMilli(first).UTC(), Last: time.UnixMilli(last).UTC()}
+	case first < -most || last > most:
+		return explained{"a time.Duration does not hold the reach of `" + r.Selector + "`", ErrTimeOverflow}
+	default:
+		r.First, r.Last = time.Duration(first)*time.Millisecond, time.Duration(last)*time.Millisecond
+	}
+	return nil
+}
+
+// Reaches returns how far from the time of evaluation each selector of a query reads, whatever that time is, in the order of Windows. Of the
+// times Step and DefaultStep count for nothing, and Start and End only where the query has @ start() or @ end(). The errors are those of
+// Windows.
+func Reaches(query string, times EvalTimes) ([]Reach, error) {
+	made, err := times.inC()
 	if err != nil {
 		return nil, err
 	}
-	var windows []Window
-	err = json.Unmarshal([]byte(shown), &windows)
-	return windows, err
+	return rowsOf[Reach](textOf(query, func(query *C.char, length C.size_t, buffer *C.char, size C.size_t, result *C.struct_promql_result) {
+		C.promql_reaches(query, length, &made, buffer, size, result)
+	}))
+}
+
+// rowsOf returns the rows of a list that the library wrote.
+func rowsOf[Row any](shown string, err error) (rows []Row, _ error) {
+	if err != nil {
+		return nil, err
+	}
+	if err := json.Unmarshal([]byte(shown), &rows); err != nil {
+		return nil, err
+	}
+	return rows, nil
 }
 
 // LastRead returns the last time that a query reads where it is evaluated at this time, and whether it reads anything. Its value at this
@@ -124,6 +178,29 @@ func IsConstant(query string) (bool, error) {
 	shown, err := textOf(query, func(query *C.char, length C.size_t, buffer *C.char, size C.size_t, result *C.struct_promql_result) {
 		C.promql_is_constant(query, length, buffer, size, result)
 	})
+	return shown == "true", err
+}
+
+// MayRead says whether a query may read a series with these labels, of which __name__ is the name of the metric: whether one of its selectors
+// selects the series. Where none does, the series may come or go, and what the query gives stays the same (docs/reference/when.md of the
+// repository, "Series that a query may read"). The error is ErrNotUTF8 where a label is not UTF-8.
+func MayRead(query string, labels map[string]string) (bool, error) {
+	series := make(map[string]string, len(labels)) // (JSON has null for a nil map)
+	for name, value := range labels {
+		if !utf8.ValidString(name) || !utf8.ValidString(value) {
+			return false, ErrNotUTF8
+		}
+		series[name] = value
+	}
+	text, err := json.Marshal(series)
+	if err != nil {
+		return false, err
+	}
+	first := (*C.char)(unsafe.Pointer(&text[0]))
+	shown, err := textOf(query, func(query *C.char, length C.size_t, buffer *C.char, size C.size_t, result *C.struct_promql_result) {
+		C.promql_may_read(query, length, first, C.size_t(len(text)), buffer, size, result)
+	})
+	runtime.KeepAlive(text)
 	return shown == "true", err
 }
 

@@ -111,3 +111,71 @@ func TestPin(t *testing.T) {
 		t.Error(err)
 	}
 }
+
+func TestReaches(t *testing.T) {
+	at := func(seconds int64) time.Time { return time.Unix(seconds, 0).UTC() }
+	times := promql.EvalTimes{Start: at(1000), End: at(1500), ClosedLeft: true}
+	found, err := promql.Reaches("rate(a{b='é'}[1m] offset -5m) + info(b @ end() offset 1m)", times)
+	fixed := promql.Window{Selector: "b @ end() offset 1m", First: at(1140), Last: at(1440)}
+	wanted := []promql.Reach{
+		{Selector: `a{b="é"} offset -5m`, First: 4 * time.Minute, Last: 5 * time.Minute},
+		{Selector: fixed.Selector, Fixed: &fixed},
+		{Selector: "target_info", First: -5 * time.Minute},
+	}
+	if err != nil || !reflect.DeepEqual(found, wanted) {
+		t.Errorf("%v %v", found, err)
+	}
+	found, err = promql.Reaches("max_over_time(a[5m:1h])", promql.EvalTimes{Lookback: time.Minute})
+	wanted = []promql.Reach{{Selector: "a", First: 2*time.Millisecond - 6*time.Minute}}
+	if err != nil || !reflect.DeepEqual(found, wanted) {
+		t.Errorf("%v %v", found, err)
+	}
+	if found, err := promql.Reaches("1", times); err != nil || len(found) != 0 {
+		t.Error(found, err)
+	}
+	if found, err := promql.Reaches("1 +", times); !errors.As(err, new(*promql.QueryError)) || found != nil {
+		t.Error(found, err)
+	}
+	_, err = promql.Reaches("a + b @ -9223372036854775.808", times)
+	if !errors.Is(err, promql.ErrTimeOverflow) || err.Error() != "a time of `b @ -9223372036854775.808` is below -2^63 or above 2^63 - 1 milliseconds" {
+		t.Error(err)
+	}
+	// (a time.Duration holds 106,751 days)
+	found, err = promql.Reaches("max_over_time(a[106751d:1d] offset 1d)", times)
+	if !errors.Is(err, promql.ErrTimeOverflow) || err.Error() != "a time.Duration does not hold the reach of `a`" || found != nil {
+		t.Error(found, err)
+	}
+	if _, err := promql.Reaches("a", promql.EvalTimes{Lookback: -1}); !errors.Is(err, promql.ErrDuration) {
+		t.Error(err)
+	}
+}
+
+func TestMayRead(t *testing.T) {
+	up := map[string]string{"__name__": "up", "job": "é<&>\"\n", "team": ""}
+	rows := []struct {
+		query  string
+		labels map[string]string
+		wanted bool
+	}{
+		{"up{job='é<&>\"\\n'}", up, true},
+		{"up{job='web'}", up, false},
+		{"max_over_time(up{team='',other=~'x?'}[5m:])", up, true},
+		{"down + on () {__name__=~'d.*'}", up, false},
+		{"info(down)", map[string]string{"__name__": "target_info"}, true},
+		{"{a!='b'}", nil, true},
+		{"up", map[string]string{}, false},
+	}
+	for _, row := range rows {
+		if may, err := promql.MayRead(row.query, row.labels); err != nil || may != row.wanted {
+			t.Error(row.query, may, err)
+		}
+	}
+	if _, err := promql.MayRead("1 +", up); !errors.As(err, new(*promql.QueryError)) {
+		t.Error(err)
+	}
+	for _, labels := range []map[string]string{{"a": "\xff"}, {"\xff": "a"}} {
+		if _, err := promql.MayRead("up", labels); !errors.Is(err, promql.ErrNotUTF8) {
+			t.Error(err)
+		}
+	}
+}
