@@ -47,7 +47,7 @@ pub use function::{Function, ValueType, get_function};
 pub use placed::{PlacedExpr, parse_placed};
 pub use print_tree::{NodeError, NodeFault, parse, places, print, print_layout};
 pub use read_form::{FormError, MOST_HEIGHT};
-pub use times::{EvalTimes, Window, is_constant, last_read, pin, windows};
+pub use times::{EvalTimes, Reach, Reached, Window, is_constant, last_read, may_read, pin, reaches, windows};
 pub use tokens::{Difference, Part, PartKind, Token, TokenKind, differences, parts, tokens};
 pub use tree::*;
 pub use visitor::{ExprVisitor, ExprVisitorMut, walk_expr, walk_expr_mut};

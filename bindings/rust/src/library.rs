@@ -114,6 +114,14 @@ extern "C" {
         buffer_size: usize,
         result: *mut Answer,
     ) -> u32;
+    fn promql_reaches(
+        query: *const u8,
+        query_length: usize,
+        times: *const CallTimes,
+        buffer: *mut u8,
+        buffer_size: usize,
+        result: *mut Answer,
+    ) -> u32;
     fn promql_last_read(
         query: *const u8,
         query_length: usize,
@@ -133,6 +141,15 @@ extern "C" {
         result: *mut Answer,
     ) -> u32;
     fn promql_is_constant(query: *const u8, query_length: usize, buffer: *mut u8, buffer_size: usize, result: *mut Answer) -> u32;
+    fn promql_may_read(
+        query: *const u8,
+        query_length: usize,
+        labels: *const u8,
+        labels_length: usize,
+        buffer: *mut u8,
+        buffer_size: usize,
+        result: *mut Answer,
+    ) -> u32;
     fn promql_check(query: *const u8, query_length: usize, buffer: *mut u8, buffer_size: usize, result: *mut Answer) -> u32;
     fn promql_explain(query: *const u8, query_length: usize, as_json: u32, buffer: *mut u8, buffer_size: usize, result: *mut Answer)
     -> u32;
@@ -268,6 +285,12 @@ pub fn windows(query: &str, times: &CallTimes) -> (String, Answer) {
     })
 }
 
+pub fn reaches(query: &str, times: &CallTimes) -> (String, Answer) {
+    call(query.len(), |(buffer, size, answer)| unsafe {
+        promql_reaches(query.as_ptr(), query.len(), times, buffer, size, answer);
+    })
+}
+
 pub fn last_read(query: &str, time: i64, times: &CallTimes) -> (String, Answer) {
     call(query.len(), |(buffer, size, answer)| unsafe {
         promql_last_read(query.as_ptr(), query.len(), time, times, buffer, size, answer);
@@ -283,6 +306,12 @@ pub fn pinned(query: &str, start: i64, end: i64) -> (String, Answer) {
 pub fn is_constant(query: &str) -> (String, Answer) {
     call(query.len(), |(buffer, size, answer)| unsafe {
         promql_is_constant(query.as_ptr(), query.len(), buffer, size, answer);
+    })
+}
+
+pub fn may_read(query: &str, labels: &str) -> (String, Answer) {
+    call(query.len(), |(buffer, size, answer)| unsafe {
+        promql_may_read(query.as_ptr(), query.len(), labels.as_ptr(), labels.len(), buffer, size, answer);
     })
 }
 

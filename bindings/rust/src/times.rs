@@ -1,6 +1,6 @@
 //! When a query reads: windows, pinned queries, and up to when an answer may change.
 
-use crate::json::{self, Value};
+use crate::json::{self, Value, Values, write_string};
 use crate::library::{self, CallTimes};
 use crate::{Error, milliseconds, text_of};
 use std::time::{Duration, SystemTime};
@@ -74,20 +74,21 @@ pub struct Window {
 /// Those of [`canonical`](crate::canonical) but `LongOutput`; `PartOfMillisecond` where the times are no whole milliseconds;
 /// `TimeOverflow` where 64 bits do not hold a window.
 pub fn windows(query: &str, times: EvalTimes) -> Result<Vec<Window>, Error> {
-    let shown = text_of(library::windows(query, &times.to_c()?))?;
-    let read = json::read(&shown);
-    Ok(match read.as_ref().map(|json| json.value()) {
-        Some(Value::Array(rows)) => rows.filter_map(window).collect(),
+    Ok(rows_of(&text_of(library::windows(query, &times.to_c()?))?, window))
+}
+
+/// The rows of an array that the library wrote.
+fn rows_of<T>(shown: &str, row: impl Fn(Values<'_>) -> Option<T>) -> Vec<T> {
+    let values = |it: Value<'_>| if let Value::Array(values) = it { row(values) } else { None };
+    let read = json::read(shown);
+    match read.as_ref().map(|json| json.value()) {
+        Some(Value::Array(rows)) => rows.filter_map(values).collect(),
         _ => Vec::new(),
-    })
+    }
 }
 
 /// A window, as the library writes it: `["a",-300000,0]`.
-fn window(row: Value<'_>) -> Option<Window> {
-    let mut values = match row {
-        Value::Array(values) => values,
-        _ => return None,
-    };
+fn window(mut values: Values<'_>) -> Option<Window> {
     match (values.next()?, values.next()?, values.next()?) {
         (Value::String(selector), first, last) => {
             let samples = moment(first).and_then(|first| Some((first, moment(last)?)));
@@ -95,6 +96,86 @@ fn window(row: Value<'_>) -> Option<Window> {
         }
         _ => None,
     }
+}
+
+/// How far from the time of evaluation a selector reads, whatever that time is.
+#[derive(Clone, Debug, PartialEq, Eq)]
+pub struct Reach {
+    /// The selector as it prints without its range.
+    pub selector: String,
+    /// From the first through the last sample that it can read.
+    pub samples: Reached,
+}
+
+/// From where to where a selector reads.
+#[derive(Clone, Copy, Debug, PartialEq, Eq)]
+pub enum Reached {
+    /// So many milliseconds after the time of evaluation. What is negative is earlier.
+    Moving(i64, i64),
+    /// The same at every time: the selector, or a subquery around it, has an `@`.
+    Fixed(SystemTime, SystemTime),
+}
+
+/// How far from the time of evaluation each selector of a query reads, whatever that time is, in the order of [`windows`]. Of the times, the
+/// steps count for nothing, and `start` and `end` only where the query has `@ start()` or `@ end()`.
+///
+/// ```
+/// # use promql_proved::{EvalTimes, Reached, reaches};
+/// # use std::time::SystemTime;
+/// let times = EvalTimes { left_open: false, ..EvalTimes::instant(SystemTime::now()) };
+/// let found = reaches("rate(a[5m] offset 1h)", times)?;
+/// assert_eq!(found[0].samples, Reached::Moving(-3_900_000, -3_600_000));
+/// # Ok::<(), promql_proved::Error>(())
+/// ```
+///
+/// # Errors
+///
+/// Those of [`windows`].
+pub fn reaches(query: &str, times: EvalTimes) -> Result<Vec<Reach>, Error> {
+    Ok(rows_of(&text_of(library::reaches(query, &times.to_c()?))?, reach))
+}
+
+/// A reach, as the library writes it: `["a",-300000,0,false]`.
+fn reach(mut values: Values<'_>) -> Option<Reach> {
+    match (values.next()?, values.next()?, values.next()?, values.next()?) {
+        (Value::String(selector), first, last, Value::Bool(is_fixed)) => {
+            let samples = match is_fixed {
+                true => Reached::Fixed(moment(first)?, moment(last)?),
+                false => Reached::Moving(whole(first)?, whole(last)?),
+            };
+            Some(Reach { selector: selector.to_string(), samples })
+        }
+        _ => None,
+    }
+}
+
+/// Whether a query may read a series with these labels, of which `__name__` is the name of the metric: whether one of its selectors selects
+/// the series. Of two labels with one name the last counts. Where no selector selects the series, it may come or go, and what the query
+/// gives stays the same (`docs/reference/when.md` of the repository, "Series that a query may read").
+///
+/// ```
+/// # use promql_proved::may_read;
+/// assert!(may_read("sum(rate(http_requests{job=~'a.*'}[5m]))", [("__name__", "http_requests"), ("job", "api")])?);
+/// # Ok::<(), promql_proved::Error>(())
+/// ```
+///
+/// # Errors
+///
+/// Those of [`canonical`](crate::canonical) but `LongOutput`.
+pub fn may_read<N, V>(query: &str, labels: impl IntoIterator<Item = (N, V)>) -> Result<bool, Error>
+where
+    N: AsRef<str>,
+    V: AsRef<str>,
+{
+    let mut series = String::new();
+    for (name, value) in labels {
+        series.push(if series.is_empty() { '{' } else { ',' });
+        write_string(&mut series, name.as_ref());
+        series.push(':');
+        write_string(&mut series, value.as_ref());
+    }
+    series.push_str(if series.is_empty() { "{}" } else { "}" });
+    text_of(library::may_read(query, &series)).map(|shown| shown == "true")
 }
 
 /// The last time that a query reads where it is evaluated at `time`; `None` where it reads nothing. Its value at this time is final once all
@@ -141,10 +222,15 @@ fn unix_millis(moment: SystemTime) -> Result<i64, Error> {
 
 /// The moment of a number of milliseconds since the epoch; `None` where it is null.
 fn moment(value: Value<'_>) -> Option<SystemTime> {
-    let millis: i64 = match value {
-        Value::Number(number) => number.parse().ok()?,
-        _ => return None,
-    };
+    let millis = whole(value)?;
     let length = Duration::from_millis(millis.unsigned_abs());
     if millis < 0 { SystemTime::UNIX_EPOCH.checked_sub(length) } else { SystemTime::UNIX_EPOCH.checked_add(length) }
+}
+
+/// A whole number; `None` where it is null.
+fn whole(value: Value<'_>) -> Option<i64> {
+    match value {
+        Value::Number(number) => number.parse().ok(),
+        _ => None,
+    }
 }

@@ -1,6 +1,7 @@
 //! When a query reads.
 
-use promql_proved::{Error, EvalTimes, Window, is_constant, last_read, pin, windows};
+use promql_proved::{Error, EvalTimes, Reach, Reached, Window, is_constant, last_read, may_read, pin, reaches, windows};
+use std::collections::HashMap;
 use std::time::{Duration, SystemTime, UNIX_EPOCH};
 
 fn at(seconds: u64) -> SystemTime {
@@ -74,4 +75,44 @@ fn times_are_pinned() {
     assert_eq!(is_constant("a @ end() + 1"), Ok(true));
     assert_eq!(is_constant("a + 1"), Ok(false));
     assert!(matches!(is_constant("1 +"), Err(Error::Rejected(_))));
+}
+
+#[test]
+fn each_selector_has_a_reach() {
+    let reach = |selector: &str, samples| Reach { selector: selector.to_string(), samples };
+    let found = reaches("rate(a{b='é'}[1m] offset -5m) + info(b @ end() offset 1m)", closed()).unwrap();
+    let wanted = [
+        reach("a{b=\"é\"} offset -5m", Reached::Moving(240_000, 300_000)),
+        reach("b @ end() offset 1m", Reached::Fixed(at(1140), at(1440))),
+        reach("target_info", Reached::Moving(-300_000, 0)),
+    ];
+    assert_eq!(found, wanted);
+    let found = reaches("max_over_time((a @ 5)[5m:1h] @ 7)", EvalTimes { left_open: true, ..closed() }).unwrap();
+    let first = UNIX_EPOCH - Duration::from_millis(294_999);
+    assert_eq!(found, [reach("a @ 5.000", Reached::Fixed(first, at(5)))]);
+    assert!(reaches("1", closed()).unwrap().is_empty());
+    assert!(matches!(reaches("a + b @ -9223372036854775.808", closed()), Err(Error::TimeOverflow(_))));
+    assert!(matches!(reaches("1 +", closed()), Err(Error::Rejected(_))));
+    let part = EvalTimes { lookback: Duration::from_micros(1), ..closed() };
+    assert_eq!(reaches("a", part), Err(Error::PartOfMillisecond));
+}
+
+#[test]
+fn a_series_may_be_read() {
+    let up = [("job", "web"), ("__name__", "up"), ("job", "é\"\n\u{1}"), ("team", "")];
+    for (query, wanted) in [
+        ("up{job='é\"\\n\\x01'}", true),
+        ("up{job='web'}", false),
+        ("max_over_time(up{team='',other=~'x?'}[5m:])", true),
+        ("down + on () {__name__=~'d.*'}", false),
+        ("1", false),
+    ] {
+        assert_eq!(may_read(query, up), Ok(wanted), "{query}");
+    }
+    let info = HashMap::from([("__name__".to_string(), "target_info".to_string())]);
+    assert_eq!(may_read("info(down)", &info), Ok(true));
+    let none: [(&str, &str); 0] = [];
+    assert_eq!(may_read("{a!='b'}", none), Ok(true));
+    assert_eq!(may_read("up", none), Ok(false));
+    assert!(matches!(may_read("1 +", up), Err(Error::Rejected(_))));
 }
