@@ -44,6 +44,7 @@ __all__ = [
     "NumberTooWideError",
     "Part",
     "QueryError",
+    "Reach",
     "ReadOtherwiseError",
     "RefusedError",
     "RenameError",
@@ -66,12 +67,14 @@ __all__ = [
     "is_constant",
     "last_read",
     "limits",
+    "may_read",
     "parse",
     "parts",
     "pinned",
     "places",
     "pretty",
     "print_tree",
+    "reaches",
     "rename_label",
     "rename_metric",
     "set_limits",
@@ -89,8 +92,9 @@ def __dir__() -> List[str]:
 
 
 _MAX_LEVEL = 512
-_MAX_WIDTH = 2**64 - 1
-_MAX_LIMIT = 2**64 - 1
+_MAX_SIZE = 2**64 - 1
+# The greatest and the least time.
+_TIMES = (2**63 - 1, -(2**63))
 # The greatest width and indentation of a layout for people.
 MAX_LINE = 65_535
 _MAX_INDENT = 16
@@ -173,12 +177,8 @@ class QueryError(Error):
 
     def __init__(self, reason: str, query: str, start: int, end: int, line: int, column: int) -> None:
         super().__init__(reason, query, start, end, line, column)
-        self.reason = reason
-        self.query = query
-        self.start = start
-        self.end = end
-        self.line = line
-        self.column = column
+        self.reason, self.query = reason, query
+        self.start, self.end, self.line, self.column = start, end, line, column
 
     def __str__(self) -> str:
         return f"{self.line}:{self.column}: {self.message}"
@@ -247,7 +247,7 @@ def set_limits(*, max_len: int = 32_768, max_patterns: int = 16_000, max_output:
     `print_tree` raises TooLargeTreeError where the JSON text of the tree has more than `max_tree` bytes, or its patterns are larger than
     those of a query may be, before anything of it is compiled."""
     wanted = {"max_len": max_len, "max_patterns": max_patterns, "max_output": max_output, "max_tree": max_tree}
-    numbers = {name: _number(name, limit, _MAX_LIMIT) for name, limit in wanted.items()}
+    numbers = {name: _number(name, limit, _MAX_SIZE) for name, limit in wanted.items()}
     _caller.set_limits(*numbers.values())
     _limits.update(numbers)
 
@@ -283,8 +283,10 @@ def _place_characters(tree: object, query: str) -> None:
             rest.extend(it)
 
 
-def _characters(text: str) -> Dict[int, int]:
+def _characters(text: str) -> Union[range, Dict[int, int]]:
     """The place in characters of each place in bytes where one begins, and of the end."""
+    if text.isascii():
+        return range(len(text) + 1)
     found, length = {0: 0}, 0
     for count, character in enumerate(text, 1):
         length += len(character.encode())
@@ -302,7 +304,7 @@ def print_tree(tree: Mapping[str, object], *, parentheses: bool = False, width: 
     form = json.dumps(tree, ensure_ascii=False, separators=(",", ":"))
     mode, sizes = Mode.LINE, (0, 0)
     if width is not None:
-        mode, sizes = Mode.PRETTY, (_number("level", level, _MAX_LEVEL), _number("width", width, _MAX_WIDTH))
+        mode, sizes = Mode.PRETTY, (_number("level", level, _MAX_LEVEL), _number("width", width, _MAX_SIZE))
     answer = _caller.print_tree(form, mode, *sizes, int(parentheses))
     if not isinstance(answer, str):
         raise _tree_error(answer)
@@ -314,7 +316,7 @@ def pretty(query: str, *, width: int = 100, level: int = 0) -> str:
 
     Each line begins with `level` indentations of two spaces, which `width` does not count.
     """
-    return _text(query, _caller.format(query, _number("level", level, _MAX_LEVEL), _number("width", width, _MAX_WIDTH)))
+    return _text(query, _caller.format(query, _number("level", level, _MAX_LEVEL), _number("width", width, _MAX_SIZE)))
 
 
 def format(query: str, *, width: int = 100, indent: int = 2, keep_spelling: bool = False, sort_matchers: bool = False) -> str:
@@ -420,8 +422,7 @@ def differences(query: str) -> List[Difference]:
     [Difference(is_rejected=True, start=0, end=3, message='Prometheus 3 rejects this: the argument is an instant vector there; \
 write vector(..) around the number')]
     """
-    found = json.loads(_text(query, _caller.differences(query)))
-    before: Union[range, Dict[int, int]] = range(len(query) + 1) if query.isascii() else _characters(query)
+    found, before = json.loads(_text(query, _caller.differences(query))), _characters(query)
     return [Difference(code == Status.REFUSED, before[start], before[end], message) for code, start, end, message in found]
 
 
@@ -440,10 +441,7 @@ def parts(query: str) -> List[List[Part]]:
     >>> [part.kind for part in promql.parts("rate(a{b='c'}[5m])")[1]]
     ['name', 'matcher', 'selector', 'range']
     """
-    found = json.loads(_text(query, _caller.parts(query)))
-    if query.isascii():
-        return [[Part(*part) for part in node] for node in found]
-    before = _characters(query)
+    found, before = json.loads(_text(query, _caller.parts(query))), _characters(query)
     return [[Part(kind, before[start], before[end]) for kind, start, end in node] for node in found]
 
 
@@ -500,20 +498,37 @@ def windows(
     return [Window(*row) for row in json.loads(_text(query, _caller.windows(query, *times)))]
 
 
+class Reach(NamedTuple):
+    """How far a selector, as it prints without its range, reads: from `first` through `last` milliseconds after the time of evaluation,
+    whatever that is; below 0 they are before it. Where it is `fixed`, which an `@` says, they are since the epoch."""
+
+    selector: str
+    first: int
+    last: int
+    fixed: bool
+
+
+def reaches(query: str, start: int = 0, end: int = 0, *, lookback: int = 300_000, left_open: bool = True) -> List[Reach]:
+    """How far each selector of a query reads, in the order of a walk. `start` and `end` are those of `@ start()` and `@ end()`, and count for
+    nothing else. Raises what `windows` raises."""
+    times = _times(start, end, 0, lookback, 0, left_open)
+    return [Reach(*row) for row in json.loads(_text(query, _caller.reaches(query, *times)))]
+
+
 def last_read(
     query: str, time: int, start: int, end: int, *, lookback: int = 300_000, default_step: int = 60_000, left_open: bool = True
 ) -> Optional[int]:
     """The last millisecond that a query reads at `time`, or None where it reads nothing: its value there is final once all samples up to it
     are known. `start` and `end` are those of `@ start()` and `@ end()`. Raises what `windows` raises."""
     times = _times(start, end, 0, lookback, default_step, left_open)
-    last: Optional[int] = json.loads(_text(query, _caller.last_read(query, _time("time", time), *times)))
+    last: Optional[int] = json.loads(_text(query, _caller.last_read(query, _number("time", time, *_TIMES), *times)))
     return last
 
 
 def pinned(query: str, start: int, end: int) -> str:
     """The query on one line with these times, in milliseconds, for `@ start()` and `@ end()`: it reads the same in parts of its times
     (docs/guide/cache.md). Raises GridFunctionError where it calls `start`, `end`, `step` or `range`."""
-    return _text(query, _caller.pinned(query, _time("start", start), _time("end", end)))
+    return _text(query, _caller.pinned(query, _number("start", start, *_TIMES), _number("end", end, *_TIMES)))
 
 
 def is_constant(query: str) -> bool:
@@ -521,16 +536,18 @@ def is_constant(query: str) -> bool:
     return _text(query, _caller.is_constant(query)) == "true"
 
 
+def may_read(query: str, labels: Mapping[str, str]) -> bool:
+    """Whether some selector of the query selects the series with these labels, `__name__` among them. Where none does, the series may come
+    or go, and what the query gives stays the same (docs/reference/when.md, "Series that a query may read")."""
+    if not all(isinstance(text, str) for label in labels.items() for text in label):
+        raise TypeError(f"expected labels that are str, got {labels!r}")
+    return _text(query, _caller.may_read(query, json.dumps(dict(labels), ensure_ascii=False))) == "true"
+
+
 def _times(start: int, end: int, step: int, lookback: int, default_step: int, left_open: bool) -> Tuple[int, ...]:
     lengths = {"step": step, "lookback": lookback, "default_step": default_step}
-    sizes = (_number(name, length, _MAX_LIMIT) for name, length in lengths.items())
-    return (_time("start", start), _time("end", end), *sizes, int(left_open))
-
-
-def _time(name: str, time: int) -> int:
-    if not -(2**63) <= index(time) < 2**63:
-        raise ValueError(f"{name} is not from -2^63 to 2^63 - 1: {time}")
-    return index(time)
+    sizes = (_number(name, length, _MAX_SIZE) for name, length in lengths.items())
+    return (_number("start", start, *_TIMES), _number("end", end, *_TIMES), *sizes, int(left_open))
 
 
 def check(query: str) -> None:
@@ -543,11 +560,11 @@ def version() -> str:
     return _text("", _caller.version())
 
 
-def _number(name: str, number: int, most: int) -> int:
+def _number(name: str, number: int, most: int, least: int = 0) -> int:
     """The number, which may be of any type that stands for a whole one."""
     number = index(number)
-    if not 0 <= number <= most:
-        raise ValueError(f"{name} is not from 0 to {most}: {number}")
+    if not least <= number <= most:
+        raise ValueError(f"{name} is not from {least} to {most}: {number}")
     return number
 
 

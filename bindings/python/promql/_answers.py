@@ -30,25 +30,12 @@ class Status(IntEnum):
     REFUSED = 24
     TIME_OVERFLOW = 25
     GRID_FUNCTION = 26
+    NOT_LABELS = 27
 
 
-class Target(IntEnum):
-    PROMETHEUS_3 = 0
-    RULES = 1
-    PROMETHEUS_2 = 2
-
-
-class Named(IntEnum):
-    METRIC = 0
-    LABEL = 1
-
-
-class Mode(IntEnum):
-    LINE = 0
-    PRETTY = 1
-    JSON = 2
-    PLACED_JSON = 3
-
+Target = IntEnum("Target", ("PROMETHEUS_3", "RULES", "PROMETHEUS_2"), start=0)
+Named = IntEnum("Named", ("METRIC", "LABEL"), start=0)
+Mode = IntEnum("Mode", ("LINE", "PRETTY", "JSON", "PLACED_JSON"), start=0)
 
 # The status of a call that has no text, its message, and the start, the end, the line and the column of its place; all in bytes.
 Failure = Tuple[int, str, int, int, int, int]

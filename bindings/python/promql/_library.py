@@ -41,11 +41,11 @@ _SIGNATURES = {
         f"promql_{name}": [*_QUERY, *_BUFFER]
         for name in ("canonical", "check", "collect", "differences", "is_constant", "parts", "places", "tokens")
     },
-    "promql_windows": [*_QUERY, ctypes.POINTER(Times), *_BUFFER],
+    **{f"promql_{name}": [*_QUERY, ctypes.POINTER(Times), *_BUFFER] for name in ("reaches", "windows")},
     "promql_last_read": [*_QUERY, ctypes.c_int64, ctypes.POINTER(Times), *_BUFFER],
     "promql_pinned": [*_QUERY, ctypes.c_int64, ctypes.c_int64, *_BUFFER],
     "promql_print": [*_QUERY, ctypes.c_uint32, ctypes.c_uint32, ctypes.c_size_t, *_BUFFER],
-    "promql_enforce": [*_QUERY, *_QUERY, *_BUFFER],
+    **{f"promql_{name}": [*_QUERY, *_QUERY, *_BUFFER] for name in ("enforce", "may_read")},
     "promql_rename": [*_QUERY, ctypes.c_uint32, *_QUERY, *_QUERY, *_BUFFER],
     "promql_explain": [*_QUERY, ctypes.c_uint32, *_BUFFER],
     "promql_snippet": [*_QUERY, ctypes.c_size_t, ctypes.c_size_t, *_BUFFER],
@@ -112,26 +112,39 @@ def _about(name: str, room: int, text: str, *arguments: Any) -> Answer:
     return _answer(call(name, room * len(encoded), encoded, len(encoded), *arguments))
 
 
+def _about_both(name: str, room: int, query: str, other: str) -> Answer:
+    encoded = _encoded(query), _encoded(other)
+    return _about(name, room, query, encoded[1], len(encoded[1]))
+
+
+def _at_times(name: str, query: str, *times: int) -> Answer:
+    return _about(name, 4, query, ctypes.byref(Times(*times)))
+
+
 def _printed(mode: Mode, query: str, *sizes: int) -> Answer:
     return _answer(print_query(_encoded(query), mode, *sizes))
 
 
-# Those about a query alone, and those that have numbers beside it: a place, times, or how it is printed.
+# Those about a query alone, with another text, and with numbers beside it: a place, times, or how it is printed.
 _AboutQuery = Callable[[str], Answer]
 _WithTwo = Callable[[str, int, int], Answer]
 canonical: _AboutQuery = partial(_about, "promql_canonical", 2)
 check: _AboutQuery = partial(_about, "promql_check", 0)
 collect: _AboutQuery = partial(_about, "promql_collect", 4)
 differences: _AboutQuery = partial(_about, "promql_differences", 2)
+enforce: Callable[[str, str], Answer] = partial(_about_both, "promql_enforce", 2)
 format: _WithTwo = partial(_printed, Mode.PRETTY)
 is_constant: _AboutQuery = partial(_about, "promql_is_constant", 0)
 json: _AboutQuery = partial(_printed, Mode.JSON)
+may_read: Callable[[str, str], Answer] = partial(_about_both, "promql_may_read", 0)
 parts: _AboutQuery = partial(_about, "promql_parts", 8)
 pinned: _WithTwo = partial(_about, "promql_pinned", 2)
 placed_json: _AboutQuery = partial(_printed, Mode.PLACED_JSON)
 places: _AboutQuery = partial(_about, "promql_places", 4)
+reaches: Callable[..., Answer] = partial(_at_times, "promql_reaches")
 snippet: _WithTwo = partial(_about, "promql_snippet", 2)
 tokens: _AboutQuery = partial(_about, "promql_tokens", 16)
+windows: Callable[..., Answer] = partial(_at_times, "promql_windows")
 format_query: Callable[[str, int, int, int], Answer] = partial(_about, "promql_format_query", 4)
 print_tree: Callable[[str, int, int, int, int], Answer] = partial(_about, "promql_print_tree", 1)
 
@@ -149,18 +162,9 @@ def canonical_many(queries: Iterable[str]) -> Lines:
     return lines, failures
 
 
-def enforce(query: str, matcher: str) -> Answer:
-    encoded = _encoded(query), _encoded(matcher)
-    return _about("promql_enforce", 2, query, encoded[1], len(encoded[1]))
-
-
 def rename(query: str, kind: int, old: str, new: str) -> Answer:
     encoded = _encoded(query), _encoded(old), _encoded(new)
     return _about("promql_rename", 2, query, kind, encoded[1], len(encoded[1]), encoded[2], len(encoded[2]))
-
-
-def windows(query: str, *times: int) -> Answer:
-    return _about("promql_windows", 4, query, ctypes.byref(Times(*times)))
 
 
 def last_read(query: str, time: int, *times: int) -> Answer:

@@ -35,9 +35,11 @@ struct library {
     __typeof__(promql_differences) *differences;
     __typeof__(promql_tokens) *tokens;
     __typeof__(promql_windows) *windows;
+    __typeof__(promql_reaches) *reaches;
     __typeof__(promql_last_read) *last_read;
     __typeof__(promql_pinned) *pinned;
     __typeof__(promql_is_constant) *is_constant;
+    __typeof__(promql_may_read) *may_read;
     __typeof__(promql_check) *check;
     __typeof__(promql_explain) *explain;
     __typeof__(promql_snippet) *snippet;
@@ -50,17 +52,18 @@ struct library {
     __typeof__(promql_set_target) *set_target;
 };
 
-enum call { PRINT, CANONICAL, ENFORCE, RENAME, COLLECT, PLACES, PARTS, DIFFERENCES, TOKENS, WINDOWS, LAST_READ, PINNED, IS_CONSTANT,
-            CHECK, EXPLAIN, SNIPPET, PRINT_TREE, FORMAT_QUERY, VERSION };
+enum call { PRINT, CANONICAL, ENFORCE, RENAME, COLLECT, PLACES, PARTS, DIFFERENCES, TOKENS, WINDOWS, REACHES, LAST_READ, PINNED, IS_CONSTANT,
+            MAY_READ, CHECK, EXPLAIN, SNIPPET, PRINT_TREE, FORMAT_QUERY, VERSION };
 
-/* A call with what it is given. `room` is how many bytes of text are likely for each byte of the query. */
+/* A call with what it is given. `other` is a matcher, or the labels of a series, and `room` how many bytes of text are likely for each byte
+ * of the query. */
 struct request {
     enum call call;
     size_t room;
     const char *query;
     size_t query_length;
-    const char *matcher;
-    size_t matcher_length;
+    const char *other;
+    size_t other_length;
     uint32_t kind;
     const char *from;
     size_t from_length;
@@ -97,7 +100,7 @@ static uint32_t make_call(const struct library *library, const struct request *r
     case CANONICAL:
         return library->canonical(query, length, buffer, size, result);
     case ENFORCE:
-        return library->enforce(query, length, request->matcher, request->matcher_length, buffer, size, result);
+        return library->enforce(query, length, request->other, request->other_length, buffer, size, result);
     case RENAME:
         return library->rename(query, length, request->kind, request->from, request->from_length, request->to, request->to_length,
                                buffer, size, result);
@@ -113,12 +116,16 @@ static uint32_t make_call(const struct library *library, const struct request *r
         return library->tokens(query, length, buffer, size, result);
     case WINDOWS:
         return library->windows(query, length, &request->times, buffer, size, result);
+    case REACHES:
+        return library->reaches(query, length, &request->times, buffer, size, result);
     case LAST_READ:
         return library->last_read(query, length, request->time, &request->times, buffer, size, result);
     case PINNED:
         return library->pinned(query, length, request->times.start, request->times.end, buffer, size, result);
     case IS_CONSTANT:
         return library->is_constant(query, length, buffer, size, result);
+    case MAY_READ:
+        return library->may_read(query, length, request->other, request->other_length, buffer, size, result);
     case CHECK:
         return library->check(query, length, buffer, size, result);
     case EXPLAIN:
@@ -215,10 +222,10 @@ static size_t first_room(const struct request *request)
 }
 
 /* Whether the call takes less time than the 5 milliseconds that another thread waits for the lock before it asks for it: that is about a
- * short query without a pattern, which is neither laid out nor explained nor gets a matcher. */
+ * short query without a pattern, which is neither laid out nor explained, with no other text beside it. */
 static int is_quick(const struct request *request)
 {
-    if (request->matcher != NULL || request->mode == PROMQL_PRETTY || request->query_length > MOST_WITH_LOCK ||
+    if (request->other != NULL || request->mode == PROMQL_PRETTY || request->query_length > MOST_WITH_LOCK ||
         request->call == EXPLAIN || request->call == FORMAT_QUERY)
         return 0;
     return request->query_length == 0 || memchr(request->query, '~', request->query_length) == NULL;
@@ -312,7 +319,8 @@ static PyObject *is_constant(PyObject *module, PyObject *query)
     return answer_about(module, query, (struct request){.call = IS_CONSTANT});
 }
 
-static PyObject *windows(PyObject *module, PyObject *arguments)
+/* The answer about a query at the times beside it. */
+static PyObject *answer_at_times(PyObject *module, PyObject *arguments, enum call call)
 {
     PyObject *query;
     long long start, end;
@@ -321,7 +329,17 @@ static PyObject *windows(PyObject *module, PyObject *arguments)
     if (!PyArg_ParseTuple(arguments, "OLLKKKI", &query, &start, &end, &step, &lookback, &default_step, &left_open))
         return NULL;
     return answer_about(module, query,
-                        (struct request){.call = WINDOWS, .times = {start, end, step, lookback, default_step, left_open}, .room = 4});
+                        (struct request){.call = call, .times = {start, end, step, lookback, default_step, left_open}, .room = 4});
+}
+
+static PyObject *windows(PyObject *module, PyObject *arguments)
+{
+    return answer_at_times(module, arguments, WINDOWS);
+}
+
+static PyObject *reaches(PyObject *module, PyObject *arguments)
+{
+    return answer_at_times(module, arguments, REACHES);
 }
 
 static PyObject *last_read(PyObject *module, PyObject *arguments)
@@ -412,24 +430,34 @@ static PyObject *print_tree(PyObject *module, PyObject *arguments)
                                          .parentheses = parentheses, .room = 1});
 }
 
-static PyObject *enforce(PyObject *module, PyObject *arguments)
+/* The answer to a request about a query and another text. */
+static PyObject *answer_about_both(PyObject *module, PyObject *arguments, struct request request)
 {
     const struct library *library = library_of(module);
-    PyObject *query, *matcher, *encoded, *encoded_matcher, *made = NULL;
-    struct request request = {.call = ENFORCE, .room = 2};
-    if (library == NULL || !PyArg_ParseTuple(arguments, "OO", &query, &matcher) || (encoded = encode(query)) == NULL)
+    PyObject *query, *other, *encoded, *encoded_other, *made = NULL;
+    if (library == NULL || !PyArg_ParseTuple(arguments, "OO", &query, &other) || (encoded = encode(query)) == NULL)
         return NULL;
-    encoded_matcher = encode(matcher);
-    if (encoded_matcher != NULL) {
+    encoded_other = encode(other);
+    if (encoded_other != NULL) {
         request.query = PyBytes_AsString(encoded);
         request.query_length = (size_t)PyBytes_Size(encoded);
-        request.matcher = PyBytes_AsString(encoded_matcher);
-        request.matcher_length = (size_t)PyBytes_Size(encoded_matcher);
+        request.other = PyBytes_AsString(encoded_other);
+        request.other_length = (size_t)PyBytes_Size(encoded_other);
         made = answer(library, &request);
-        Py_DecRef(encoded_matcher);
+        Py_DecRef(encoded_other);
     }
     Py_DecRef(encoded);
     return made;
+}
+
+static PyObject *enforce(PyObject *module, PyObject *arguments)
+{
+    return answer_about_both(module, arguments, (struct request){.call = ENFORCE, .room = 2});
+}
+
+static PyObject *may_read(PyObject *module, PyObject *arguments)
+{
+    return answer_about_both(module, arguments, (struct request){.call = MAY_READ});
 }
 
 static PyObject *rename_in_query(PyObject *module, PyObject *arguments)
@@ -779,7 +807,8 @@ static PyObject *load(PyObject *module, PyObject *path)
         find(handle, "promql_parts", &found.parts) || find(handle, "promql_tokens", &found.tokens) ||
         find(handle, "promql_differences", &found.differences) || find(handle, "promql_windows", &found.windows) ||
         find(handle, "promql_last_read", &found.last_read) || find(handle, "promql_pinned", &found.pinned) ||
-        find(handle, "promql_is_constant", &found.is_constant) ||
+        find(handle, "promql_is_constant", &found.is_constant) || find(handle, "promql_reaches", &found.reaches) ||
+        find(handle, "promql_may_read", &found.may_read) ||
         find(handle, "promql_check", &found.check) || find(handle, "promql_explain", &found.explain) ||
         find(handle, "promql_snippet", &found.snippet) ||
         find(handle, "promql_version", &found.version) || find(handle, "promql_set_limits", &found.set_limits) ||
@@ -832,12 +861,14 @@ static PyMethodDef methods[] = {
     {"json", json, METH_O, NULL},
     {"last_read", last_read, METH_VARARGS, NULL},
     {"learn_nodes", learn_nodes, METH_VARARGS, NULL},
+    {"may_read", may_read, METH_VARARGS, NULL},
     {"parts", parts, METH_O, NULL},
     {"placed_json", placed_json, METH_O, NULL},
     {"pinned", pinned, METH_VARARGS, NULL},
     {"places", places, METH_O, NULL},
     {"print_nodes", print_nodes, METH_VARARGS, NULL},
     {"print_tree", print_tree, METH_VARARGS, NULL},
+    {"reaches", reaches, METH_VARARGS, NULL},
     {"read_form", read_text_of_form, METH_O, NULL},
     {"read_tree", read_tree, METH_O, NULL},
     {"rename", rename_in_query, METH_VARARGS, NULL},

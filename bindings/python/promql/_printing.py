@@ -234,7 +234,7 @@ def text_of_matching(matching: Matching) -> str:
 
 
 def layout_of(tree: Expr, width: int, level: int) -> str:
-    return _printed(tree, Mode.PRETTY, promql._number("level", level, promql._MAX_LEVEL), promql._number("width", width, promql._MAX_WIDTH))
+    return _printed(tree, Mode.PRETTY, promql._number("level", level, promql._MAX_LEVEL), promql._number("width", width, promql._MAX_SIZE))
 
 
 def _printed(tree: Expr, mode: Mode, level: int, width: int) -> str:

@@ -53,6 +53,8 @@ for name in "is_constant", "parts", "tokens":
         FUNCTIONS += ((name,),)
 if hasattr(calls, "pinned") and hasattr(_library._library, "promql_pinned"):
     FUNCTIONS += (("windows", -5, 2**63 - 1, 0, 7, 1, 1), ("last_read", 5, -(2**63), 0, 1, 2**64 - 1, 9, 0), ("pinned", -1, 1))
+if hasattr(calls, "reaches") and hasattr(_library._library, "promql_reaches"):
+    FUNCTIONS += (("reaches", -5, 2**63 - 1, 0, 7, 1, 1), ("may_read", '{"a":"1"}'), ("may_read", "[]"), ("may_read", ""))
 if hasattr(calls, "print_tree") and hasattr(_library._library, "promql_print_tree"):
     FUNCTIONS += (("print_tree", 0, 0, 0, True), ("print_tree", 1, 2, 20, False), ("print_tree", 3, 0, 0, True))
 

@@ -7,6 +7,7 @@ import sys
 import threading
 import unittest
 from pathlib import Path
+from types import MappingProxyType
 
 import promql
 from promql import _library
@@ -344,6 +345,43 @@ class Texts(unittest.TestCase):
                 promql.windows("a", *times)
         with self.assertRaises(TypeError):
             promql.windows("a", 0.5, 1)
+
+    def test_reaches(self):
+        query = "rate(a{b='é'}[1m] offset -5m) + info(b @ end() offset 1m)"
+        wanted = [('a{b="é"} offset -5m', 240_000, 300_000, False), ("b @ end() offset 1m", 1_140_000, 1_440_000, True), ("target_info", -300_000, 0, False)]
+        self.assertEqual(promql.reaches(query, 1_000_000, 1_500_000, left_open=False), wanted)
+        self.assertEqual(promql.reaches("max_over_time(a[5m:1h])", lookback=60_000), [("a", -359_998, 0, False)])
+        self.assertEqual(promql.reaches("1"), [])
+        with self.assertRaises(promql.TimeOverflowError) as raised:
+            promql.reaches("a + b @ -9223372036854775.808")
+        message = "a time of `b @ -9223372036854775.808` is below -2^63 or above 2^63 - 1 milliseconds"
+        self.assertEqual((str(raised.exception), raised.exception.number), (message, 25))
+        for wrong, error in (("1 +", promql.QueryError), ("a" * 32_769, promql.TooLargeError), ("\ud800", UnicodeEncodeError), (1, TypeError)):
+            for call in (promql.reaches, lambda it: promql.may_read(it, {})):
+                with self.assertRaises(error):
+                    call(wrong)
+        with self.assertRaises(ValueError):
+            promql.reaches("a", lookback=-1)
+
+    def test_may_read(self):
+        up = {"__name__": "up", "job": "é\"\n\0", "team": ""}
+        rows = (
+            ("up{job='é\"\\n\\x00'}", up, True),
+            ("up{job='web'}", up, False),
+            ("max_over_time(up{team='',other=~'x?'}[5m:])", up, True),
+            ("down + on () {__name__=~'d.*'}", up, False),
+            ("info(down)", MappingProxyType({"__name__": "target_info"}), True),
+            ("{a!='b'}", {}, True),
+            ("up", {}, False),
+        )
+        for query, labels, wanted in rows:
+            self.assertIs(promql.may_read(query, labels), wanted, query)
+        for labels in ({"a": 1}, {1: "a"}, {"a": None}):
+            with self.assertRaises(TypeError):
+                promql.may_read("up", labels)
+        for labels in ({"a": "\ud800"}, {"\ud800": "a"}):
+            with self.assertRaises(UnicodeEncodeError):
+                promql.may_read("up", labels)
 
     def test_last_read(self):
         for query, last in (("a", 60_000), ("a offset -5m + b offset 5m", 360_000), ("a @ end()", 3_600_000), ("1", None)):
