@@ -52,6 +52,8 @@ struct answer {
 
 static void make_call(int call, const char *query, struct answer *answer)
 {
+    static const struct promql_times times = {0, 0, 0, 300000, 60000, 1};
+    static const char *const labels[] = {"{\"__name__\":\"up\",\"job\":\"\\u00e9\",\"code\":\"500\"}", "{\"a\":[\"b\"]}"};
     size_t length = strlen(query);
     memset(answer, 0, sizeof *answer);
     if (call < 3)
@@ -68,6 +70,10 @@ static void make_call(int call, const char *query, struct answer *answer)
         promql_collect(query, length, answer->text, SIZE, &answer->result);
     else if (call == 8 || call == 9)
         promql_explain(query, length, call == 9, answer->text, SIZE, &answer->result);
+    else if (call == 10)
+        promql_reaches(query, length, &times, answer->text, SIZE, &answer->result);
+    else if (call == 11 || call == 12)
+        promql_may_read(query, length, labels[call - 11], strlen(labels[call - 11]), answer->text, SIZE, &answer->result);
     else
         promql_snippet(query, length, 1, 3, answer->text, SIZE, &answer->result);
 }
@@ -116,7 +122,7 @@ int main(void)
     if (failed != 0)
         printf("FAILED a call without the bounds of the stack\n");
     for (size_t i = 0; i < sizeof queries / sizeof *queries; i++) {
-        for (int call = 0; call < 11; call++) {
+        for (int call = 0; call < 14; call++) {
             struct answer ample, found;
             long number = 0, is_met = 1;
             make_call(call, queries[i], &ample);
