@@ -122,7 +122,7 @@ pub enum Reached {
 /// ```
 /// # use promql_proved::{EvalTimes, Reached, reaches};
 /// # use std::time::SystemTime;
-/// let times = EvalTimes { left_open: false, ..EvalTimes::instant(SystemTime::now()) };
+/// let times = EvalTimes { left_open: false, ..EvalTimes::instant(SystemTime::UNIX_EPOCH) };
 /// let found = reaches("rate(a[5m] offset 1h)", times)?;
 /// assert_eq!(found[0].samples, Reached::Moving(-3_900_000, -3_600_000));
 /// # Ok::<(), promql_proved::Error>(())
