@@ -20,6 +20,7 @@ TOP = pathlib.Path(__file__).resolve().parent.parent.parent
 sys.path[:0] = [str(TOP / "bench" / "meaning"), str(TOP / "bin"), str(TOP / "bindings" / "python")]
 import compare as meaning  # noqa: E402
 import promql  # noqa: E402
+import remote  # noqa: E402
 from checks import print_counts  # noqa: E402
 
 # Samples of three hours, one each 20 seconds, some of them a little later.
@@ -150,12 +151,12 @@ def series_of(rng: random.Random, name: str) -> Iterator[Series]:
 
 
 def until(series: Series, last: Optional[int]) -> Series:
-    return within(series, None if last is None else (0, last))
+    return Series(series.name, series.labels, [] if last is None else [it for it in series.timed if it[0] <= last])
 
 
-def within(series: Series, window: Optional[Tuple[int, int]]) -> Series:
+def within(series: Series, window: Optional[Tuple[int, int]]) -> remote.Stored:
     kept = [it for it in series.timed if window and window[0] <= it[0] <= window[1]]
-    return Series(series.name, series.labels, kept)
+    return remote.Stored({"__name__": series.name, **series.labels}, kept)
 
 
 # ---- the comparison
@@ -217,6 +218,19 @@ def compare(servers: List[meaning.Prometheus], asked: Asked, answer: Told, count
     tell("final", [servers[0], servers[2]], at_last, later, now, counts, failed)
 
 
+def count_reads(windowed: remote.RemoteRead, asked: Asked, answer: Told, counts: Counter[str], failed: List[Tuple]) -> None:
+    """Compares each window with the times for which the server asks its storage: it reads nothing else."""
+    reads = remote.widest(windowed.reads)
+    windowed.reads.clear()
+    for name, window in zip(asked.names, answer.windows):
+        if name not in reads or window is None:
+            continue
+        counts["windows within what the server asks for"] += 1
+        counts["that are narrower"] += window != reads[name]
+        if not reads[name][0] <= window[0] <= window[1] <= reads[name][1]:
+            failed.append(("windows within what the server asks for", asked, (name, window), reads[name]))
+
+
 def tell(
     law: str, servers: List[meaning.Prometheus], asked: Asked, wanted: Tuple[str, str], got: Tuple[str, str], counts: Counter[str],
     failed: List[Tuple],
@@ -243,28 +257,32 @@ def main() -> int:
     counts["not accepted here"] = sum(it is None for it in answers)
     asked_and_told = [(asked, answer) for asked, answer in zip(queries, answers) if answer]
     failed: List[Tuple] = []
-    whole, cut, known = [], [], []
+    whole, known = [], []
+    cut: Dict[str, List[remote.Stored]] = collections.defaultdict(list)
     for asked, answer in asked_and_told:
         if len(asked.names) != len(answer.windows):
             raise SystemExit(f"{asked.query}: {len(answer.windows)} windows")
         for name, span in zip(asked.names, answer.windows):
             for series in series_of(rng, name):
                 whole.append(series)
-                cut.append(within(series, span))
+                cut[name].append(within(series, span))
                 known.append(until(series, answer.last))
     counts["samples"] = sum(len(it.timed) for it in whole)
-    counts["samples within windows"] = sum(len(it.timed) for it in cut)
+    counts["samples within windows"] = sum(len(it.samples) for store in cut.values() for it in store)
     with tempfile.TemporaryDirectory() as folder, contextlib.ExitStack() as stack:
+        windowed = remote.RemoteRead(cut)
+        stack.callback(windowed.end)
         servers = []
-        for name, store in (("whole", whole), ("cut", cut), ("known", known)):
-            servers.append(meaning.Prometheus(pathlib.Path(folder, name), store))
+        for name, store, settings in (("whole", whole, "global: {}\n"), ("windowed", [], windowed.settings()), ("known", known, "global: {}\n")):
+            servers.append(meaning.Prometheus(pathlib.Path(folder, name), store, settings))
             stack.callback(servers[-1].end)
         for asked, answer in asked_and_told:
             compare(servers, asked, answer, counts, failed)
+            count_reads(windowed, asked, answer, counts, failed)
     print(", ".join(f"{key} {value}" for key, value in counts.items()))
     for law, asked, wanted, got in failed:
         print(f"FAILED {law}: {asked}\n    {str(wanted)[:300]}\n    {str(got)[:300]}")
-    passed = sum(counts[law] for law in ("within windows", "pinned", "pinned, in parts", "final"))
+    passed = sum(counts[law] for law in ("within windows", "pinned", "pinned, in parts", "final", "windows within what the server asks for"))
     return print_counts(passed - len(failed), len(failed))
 
 
