@@ -13,23 +13,8 @@ use Rattle.promql_when.specs.MayRead.{any_may_read, may_read, maybe_may_read}
 use Rattle.promql_when.specs.Reads.{is_bare_info, target_info}
 use Rattle.promql_meaning.specs.Stores.{Stored, Store, read}
 use Rattle.promql_meaning.specs.Seen.{joined, aggregated, negated, operated, stepped, called, extended, instants, ranges, none_seen, first_seen, seen, maybe_seen, all_seen, beside, info_beside, is_absent, nothing, series}
+use Rattle.promql_meaning.proofs.Among.{found_among}
 use Rattle.promql_meaning.proofs.SeenClauses.{matchers_in_first}
-
--- a test finds the same among what passes another one, where it finds nothing else
-found_among : (q p : Stored → Bool) (xs : Store) → ((x : Stored) → q x ≡ true → p x ≡ true) → filter q xs ≡ filter q (filter p xs)
-found_among q p [] only = refl
-found_among q p (x ∷ xs) only = go (p x) (q x) refl refl (found_among q p xs only)
-  where
-    go : (a b : Bool) → p x ≡ a → q x ≡ b → filter q xs ≡ filter q (filter p xs)
-        → cond (q x) (x ∷ filter q xs) (filter q xs) ≡ filter q (cond (p x) (x ∷ filter p xs) (filter p xs))
-    go true b passes is again =
-        (λ i. cond (q x) (x ∷ again i) (again i))
-        ∙ ap (λ a. filter q (cond a (x ∷ filter p xs) (filter p xs))) (sym passes)
-    go false false fails missed again =
-        ap (λ b. cond b (x ∷ filter q xs) (filter q xs)) missed
-        ∙ again
-        ∙ ap (λ a. filter q (cond a (x ∷ filter p xs) (filter p xs))) (sym fails)
-    go false true fails found again = absurd (true≢false (sym (only x found) ∙ fails))
 
 first_holds : (a b : Bool) → a ≡ true → (a || b) ≡ true
 first_holds a b is = ap (λ a. a || b) is

@@ -1,3 +1,4 @@
 pub mod Relabeled
 pub mod Seen
+pub mod SeenAt
 pub mod Stores
