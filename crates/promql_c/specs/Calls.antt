@@ -21,17 +21,17 @@ use Rattle.promql_lines.specs.declared.query_error.QueryError.{QueryError}
 use Rattle.promql_lines.specs.declared.query_error.QueryError.TheVariants as error
 use Rattle.promql_lines.specs.declared.renamed_line.Named.{Named}
 use Rattle.promql_lines.specs.TreeTexts.{PrintsForm}
+use Rattle.promql_lines.specs.WindowsText.{GivesWindows, IsLastReadText, Overflows}
 use Rattle.promql_run.specs.declared.format.Format.{Format}
 use Rattle.promql_when.specs.Pinned.{asks_grid, pinned}
 use Rattle.promql_when.specs.Reached.{evaluation, reach_overflow}
 use Rattle.promql_when.specs.Reads.{overflow}
-use Rattle.promql_when.specs.Windows.{asked, instant}
+use Rattle.promql_when.specs.Windows.{instant}
 use Rattle.promql_when.specs.declared.times.Times.{Times}
 use Rattle.promql_lines.specs.declared.mode.Mode.{Mode}
 use Rattle.promql_c.specs.ReachesText.{IsReachesText}
 use Rattle.promql_c.specs.SeriesText.{AreNoLabels, IsMayReadText}
 use Rattle.promql_c.specs.TokensText.{GivesTokens}
-use Rattle.promql_c.specs.WindowsText.{IsLastReadText, IsWindowsText, Overflows}
 
 -- ---- what is made of bytes: a text, or an error
 
@@ -93,12 +93,9 @@ IsTreePrintOf limits max_tree form parens =
 abbrev pub IsFormattedOf : Limits → FormatOptions → Text → Result Text QueryError → Type 0
 IsFormattedOf limits options query = OfTexts (IsUtf8 query) (IsFormattedQuery limits options query)
 
--- "windows": those of the query's tree; or 64 bits do not hold a time of the first node whose window they do not hold
-abbrev pub GivesWindows : Times → Tree → Result Text QueryError → Type 0
-GivesWindows ts t = Gives (IsWindowsText ts t) (Overflows (overflow ts t (asked ts)))
-
+-- "windows": those of the query's tree
 abbrev pub IsWindowsOf : Limits → Times → Text → Result Text QueryError → Type 0
-IsWindowsOf limits ts query = OfTexts (IsUtf8 query) (OfTree limits query (GivesWindows ts))
+IsWindowsOf limits ts query = OfTexts (IsUtf8 query) (OfTree limits query (GivesWindows query ts))
 
 -- "last read": the last millisecond that the query reads at this time
 abbrev pub GivesLastRead : Times → ℤ → Tree → Result Text QueryError → Type 0

@@ -13,4 +13,3 @@ pub mod PlacesText
 pub mod ReachesText
 pub mod SeriesText
 pub mod TokensText
-pub mod WindowsText

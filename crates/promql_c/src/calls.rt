@@ -10,7 +10,7 @@ ghost use Rattle.promql_span.specs.Targets.{for_rules};
 ghost use Rattle.promql_c.specs.Formats.{format_numbered, format_options, mode_numbered, named_numbered};
 ghost use Rattle.promql_c.specs.PartsText.{IsPartsText};
 ghost use Rattle.promql_c.specs.PlacesText.{IsPlacesText};
-ghost use Rattle.promql_c.specs.WindowsText.{IsConstantText};
+ghost use Rattle.promql_lines.specs.WindowsText.{IsConstantText};
 
 use crate::call_result::{CallResult, show, show_enforced, show_text};
 use crate::collecting::collect_query;

@@ -1,9 +1,8 @@
 //! What a query names, as JSON: docs/guide/bindings.md, "What a query names".
 
-ghost use Rattle.std.specs.Prelude.{◌≡◌, IfOk, false, map, option_map, string_bytes};
+ghost use Rattle.std.specs.Prelude.{◌≡◌, IfOk, map, option_map, string_bytes};
 ghost use Rattle.std.specs.Duration.{as_nanos};
 ghost use Rattle.serde_json.specs.View.{view};
-ghost use Rattle.serde_json.specs.Written.{compact_text, has_float};
 ghost use Rattle.promql_grammar.specs.Results.{on_result};
 ghost use Rattle.promql_ast.specs.Shifts.{moment_of, shift_of};
 ghost use Rattle.promql_ast.specs.View.{tree_of};
@@ -16,6 +15,7 @@ ghost use Rattle.promql_c.specs.CollectedParts as part;
 ghost use Rattle.promql_c.specs.CollectedTexts.{IsCollectedText};
 
 use promql_ast::{AtModifier, Expr, Offset, drop_expr};
+use promql_lines::finite_json::value_text;
 use promql_lines::query_error::QueryError;
 use promql_lines::query_tree::query_tree;
 use promql_rewrite::{Collected, CollectedSelector, collect};
@@ -119,16 +119,6 @@ fn collected_text(alloc: Global, expr: &Expr) -> Result<String, AllocError>
     let value = collected_value(alloc, &found);
     drop(found);
     value_text(alloc, value?)
-}
-
-/// The text of a value without numbers.
-pub(crate) fn value_text(alloc: Global, value: Value) -> Result<String, AllocError>
-    requires { has_float (view value) ≡ false }
-    ensures { IfOk result (λ s. string_bytes s ≡ compact_text (view value)) }
-{
-    let text = value.to_string(alloc);
-    drop(value);
-    text
 }
 
 /// The JSON of what a text's query names.

@@ -12,8 +12,8 @@ ghost use Rattle.promql_span.specs.Targets.{for_rules};
 ghost use Rattle.promql_c.specs.Calls.{IsTextOf};
 ghost use Rattle.promql_c.specs.FindingsText.{IsFindingsText, row_value};
 
-use crate::collecting::value_text;
 use promql_ast::drop_expr;
+use promql_lines::finite_json::value_text;
 use promql_lines::query_error::QueryError;
 use promql_lines::query_tree::query_tree;
 use promql_report::findings::{Finding, findings};

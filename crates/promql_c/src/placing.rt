@@ -13,8 +13,8 @@ ghost use Rattle.promql_c.specs.Calls.{IsTextOf};
 ghost use Rattle.promql_c.specs.PartsText.{IsPartsText, part_name, part_value, parts_value};
 ghost use Rattle.promql_c.specs.PlacesText.{IsPlacesText, span_value};
 
-use crate::collecting::value_text;
 use promql_ast::{Expr, drop_expr};
+use promql_lines::finite_json::value_text;
 use promql_lines::query_error::QueryError;
 use promql_lines::query_tree::query_tree;
 use promql_places::{Part, PartKind, find_parts, find_places};

@@ -12,11 +12,11 @@ ghost use Rattle.promql_when.specs.Reads.{target_info};
 ghost use Rattle.promql_c.specs.Calls.{GivesReaches, IsReachesOf};
 ghost use Rattle.promql_c.specs.ReachesText as spec;
 
-use crate::collecting::value_text;
-use crate::timing::{error_of, selector_text};
 use promql_ast::{Expr, drop_expr};
+use promql_lines::finite_json::value_text;
 use promql_lines::query_error::QueryError;
 use promql_lines::query_tree::query_tree;
+use promql_lines::windows_text::{error_of, selector_text};
 use promql_span::limits::Limits;
 use promql_when::{SelectorReach, Times, reaches};
 use serde_json::{Value, json};

@@ -13,8 +13,8 @@ ghost use Rattle.promql_c.specs.Calls.{GivesMayRead, IsMayReadOf};
 ghost use Rattle.promql_c.specs.SeriesText as spec;
 ghost use Rattle.promql_c.specs.SeriesText.{AreNoLabels};
 
-use crate::collecting::value_text;
 use promql_ast::{Expr, drop_expr};
+use promql_lines::finite_json::value_text;
 use promql_lines::labels_fault::LabelsFault;
 use promql_lines::query_error::QueryError;
 use promql_lines::query_tree::query_tree;

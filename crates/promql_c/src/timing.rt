@@ -1,153 +1,22 @@
 //! When a query reads, and the line of a query with numbers for `@ start()` and `@ end()`: docs/guide/bindings.md, "When a query reads".
 
-ghost use Rattle.std.specs.Prelude.{◌≡◌, ◌⊎◌, Err, IfOk, None, Option, Some, option_map, string_bytes};
-ghost use Rattle.std.specs.Option.{option_map_or};
-ghost use Rattle.serde_json.specs.View.{view};
-ghost use Rattle.serde_json.specs.Written.{compact_text};
+ghost use Rattle.std.specs.Prelude.{string_bytes};
 ghost use Rattle.promql_grammar.specs.Results.{on_result};
-ghost use Rattle.promql_ast.specs.Text.{text};
-ghost use Rattle.promql_ast.specs.Tree.{Tree, vector};
-ghost use Rattle.promql_ast.specs.View.{selector_of, tree_of};
-ghost use Rattle.promql_json.specs.JsonParts.{or_null, whole};
+ghost use Rattle.promql_ast.specs.View.{tree_of};
 ghost use Rattle.promql_lines.specs.QueryErrors.{Gives, OfTree};
-ghost use Rattle.promql_when.specs.Found.{IsErrorAt, found_of, timed_tree};
-ghost use Rattle.promql_when.specs.Last as last;
-ghost use Rattle.promql_when.specs.Reads.{overflow, target_info};
-ghost use Rattle.promql_when.specs.Reads as reads;
-ghost use Rattle.promql_when.specs.Windows.{asked, instant};
-ghost use Rattle.promql_c.specs.Calls.{GivesLastRead, GivesWindows, IsLastReadOf, IsPinnedOf, IsTextOf, IsWindowsOf, Pins};
-ghost use Rattle.promql_c.specs.WindowsText as spec;
-ghost use Rattle.promql_c.specs.WindowsText.{IsConstantText, Overflows};
+ghost use Rattle.promql_lines.specs.WindowsText.{GivesWindows, IsConstantText};
+ghost use Rattle.promql_c.specs.Calls.{GivesLastRead, IsLastReadOf, IsPinnedOf, IsTextOf, IsWindowsOf, Pins};
 
-use crate::collecting::value_text;
-use promql_ast::{Expr, VectorSelector, drop_expr};
+use promql_ast::{Expr, drop_expr};
+use promql_lines::finite_json::value_text;
 use promql_lines::output::output_within;
 use promql_lines::query_error::QueryError;
 use promql_lines::query_tree::query_tree;
+use promql_lines::windows_text::{error_of, last_text, windows_text};
 use promql_span::limits::Limits;
-use promql_when::{
-    PinError, SelectorWindow, TimedNode, Times, Window, WindowsError, is_constant, last_read,
-    pinned, windows,
-};
-use serde_json::{Value, json};
-use std::alloc::{AllocError, Global};
-
-/// A selector without its range, as it prints.
-pub(crate) fn selector_text(
-    alloc: Global,
-    selector: Option<&VectorSelector>,
-) -> Result<String, AllocError>
-    ensures { IfOk result (λ s. string_bytes s ≡ text (vector (option_map_or (λ v. selector_of v.now) selector.entry target_info))) }
-{
-    match selector {
-        Some(selector) => selector.to_string(alloc),
-        None => String::from_str(alloc, "target_info"),
-    }
-}
-
-/// A time; null where there is none.
-fn time_value(time: Option<i64>) -> Value
-    ensures { view result ≡ or_null whole time }
-{
-    match time {
-        Some(time) => Value::from(time),
-        None => Value::Null,
-    }
-}
-
-/// The first millisecond of a window; null where there is none.
-fn first_value(window: Option<Window>) -> Value
-    ensures { view result ≡ or_null (λ w. whole w.first) window }
-{
-    match window {
-        Some(window) => Value::from(window.first),
-        None => Value::Null,
-    }
-}
-
-/// The last millisecond of a window; null where there is none.
-fn last_value(window: Option<Window>) -> Value
-    ensures { view result ≡ or_null (λ w. whole w.last) window }
-{
-    match window {
-        Some(window) => Value::from(window.last),
-        None => Value::Null,
-    }
-}
-
-/// A selector, and the ends of its window.
-fn window_value(alloc: Global, found: &SelectorWindow<'_>) -> Result<Value, AllocError>
-    ensures { IfOk result (λ v. view v
-        ≡ spec.window_value (option_map_or (λ v. selector_of v.now) found.now.selector target_info, found.now.window)) }
-{
-    json!(in alloc; [
-        selector_text(alloc, found.selector)?,
-        first_value(found.window),
-        last_value(found.window)
-    ])
-}
-
-/// A list of these.
-fn windows_value(alloc: Global, found: &[SelectorWindow<'_>]) -> Result<Value, AllocError>
-    ensures { IfOk result (λ v. view v ≡ spec.windows_value (found_of found.now)) }
-{
-    let mut list = Vec::with_capacity(alloc, found.len())?;
-    for selector in found {
-        list.push(window_value(alloc, selector)?)?;
-    }
-    Ok(Value::Array(list))
-}
-
-fn windows_text(alloc: Global, found: &[SelectorWindow<'_>]) -> Result<String, AllocError>
-    ensures { IfOk result (λ s. string_bytes s ≡ compact_text (spec.windows_value (found_of found.now))) }
-{
-    let value = windows_value(alloc, found)?;
-    value_text(alloc, value)
-}
-
-fn last_text(alloc: Global, last: Option<i64>) -> Result<String, AllocError>
-    ensures { IfOk result (λ s. string_bytes s ≡ compact_text (or_null whole last)) }
-{
-    value_text(alloc, time_value(last))
-}
-
-/// The text of a node.
-fn node_text(alloc: Global, node: TimedNode<'_>) -> Result<String, AllocError>
-    ensures { IfOk result (λ s. string_bytes s ≡ text (timed_tree node.entry)) }
-{
-    match node {
-        TimedNode::Vector(node) => node.to_string(alloc),
-        TimedNode::Matrix(node) => node.to_string(alloc),
-        TimedNode::Subquery(node) => node.to_string(alloc),
-        TimedNode::Info(node) => node.to_string(alloc),
-    }
-}
-
-/// The error of a query that has no windows.
-pub(crate) fn error_of(alloc: Global, error: WindowsError<'_>) -> QueryError
-    ensures { (found : Option Tree) → IsErrorAt found error.entry → Overflows found result ⊎ (result ≡ QueryError.Memory) }
-{
-    match error {
-        WindowsError::TimeOverflow(node) => match node_text(alloc, node) {
-            Ok(text) => QueryError::TimeOverflow(text),
-            Err(_) => QueryError::Memory,
-        },
-        WindowsError::Memory => QueryError::Memory,
-    }
-}
-
-/// The JSON of the windows of an expression.
-fn text_of_windows(alloc: Global, times: &Times, expr: &Expr) -> Result<String, QueryError>
-    ensures { GivesWindows times.now (tree_of expr.now) (on_result (λ s. string_bytes s) result) }
-{
-    match windows(alloc, expr, times) {
-        Ok(found) => match windows_text(alloc, found.as_slice()) {
-            Ok(text) => Ok(text),
-            Err(_) => Err(QueryError::Memory),
-        },
-        Err(error) => Err(error_of(alloc, error)),
-    }
-}
+use promql_when::{PinError, Times, is_constant, last_read, pinned};
+use serde_json::Value;
+use std::alloc::Global;
 
 /// The JSON of the windows of a text's query.
 fn window_text(
@@ -156,13 +25,13 @@ fn window_text(
     times: &Times,
     query: &str,
 ) -> Result<String, QueryError>
-    ensures { OfTree limits.now query.now (GivesWindows times.now) (on_result (λ s. string_bytes s) result) }
+    ensures { OfTree limits.now query.now (GivesWindows query.now times.now) (on_result (λ s. string_bytes s) result) }
 {
     let expr = match query_tree(alloc, limits, query) {
         Ok(expr) => expr,
         Err(error) => return Err(error),
     };
-    let text = text_of_windows(alloc, times, &expr);
+    let text = windows_text(alloc, query, times, &expr);
     drop_expr(expr);
     text
 }

@@ -11,7 +11,7 @@ ghost use Rattle.promql_token.specs.declared.lexeme.Lexeme as lexemes;
 ghost use Rattle.promql_c.specs.Calls.{IsTokensOf};
 ghost use Rattle.promql_c.specs.TokensText as spec;
 
-use crate::collecting::value_text;
+use promql_lines::finite_json::value_text;
 use promql_lines::query_error::QueryError;
 use promql_report::rejection::{Reason, Rejection};
 use promql_span::limits::{LimitFault, Limits};

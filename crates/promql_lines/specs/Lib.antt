@@ -7,5 +7,8 @@ pub mod LinesWithin
 pub mod QueryErrors
 pub mod RenamedLines
 pub mod Requests
+pub mod SelectorPlaces
 pub mod TreeTexts
 pub mod Telling
+pub mod WalkedPlaces
+pub mod WindowsText

@@ -5,6 +5,7 @@
 pub mod answer_text;
 pub mod batch;
 pub mod enforced_line;
+pub mod finite_json;
 pub mod formatted_query;
 pub mod labels_fault;
 mod limit_checks;
@@ -23,5 +24,7 @@ pub mod renamed_line;
 pub mod request;
 pub mod request_fault;
 mod request_id;
+pub mod selector_places;
 pub mod settings;
 pub mod tree_text;
+pub mod windows_text;

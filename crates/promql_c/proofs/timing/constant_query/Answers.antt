@@ -1,7 +1,7 @@
 use Rattle.std.proofs.Common.{inl, string_bytes, subst}
 use Rattle.promql_grammar.specs.Results.{on_result}
 use Rattle.promql_lines.specs.QueryErrors.{Gives, OfTree}
-use Rattle.promql_c.specs.WindowsText.{IsConstantText}
+use Rattle.promql_lines.specs.WindowsText.{IsConstantText}
 use Rattle.promql_c.proofs.timing.constant_query.Goals as goal
 
 pub returns : goal.returns

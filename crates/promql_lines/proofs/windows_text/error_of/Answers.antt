@@ -1,6 +1,6 @@
 use Rattle.std.proofs.Common.{inl, refl, subst}
 use Rattle.promql_when.specs.Found.{IsErrorAt, timed_tree}
-use Rattle.promql_c.proofs.timing.error_of.Goals as goal
+use Rattle.promql_lines.proofs.windows_text.error_of.Goals as goal
 
 pub returns-in-Ok : goal.returns-in-Ok
 returns-in-Ok c =
