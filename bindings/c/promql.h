@@ -170,9 +170,9 @@ uint32_t promql_tokens(const char *text, size_t text_length, char *buffer, size_
                        struct promql_result *result);
 
 /* Shows when each selector of a query reads over all times of the query, as JSON: an array with an array for each selector, in the order of a
- * walk: the selector as it prints without its range, and the first and the last millisecond of its window, as ["a",-300000,0]. Both are null
- * where the selector is never evaluated. A call of info without a second argument also has target_info, after its argument
- * (docs/guide/bindings.md, "When a query reads"). */
+ * walk: the selector as it prints without its range, the first and the last millisecond of its window, and the bytes of the query from and up
+ * to which it is, as ["a",-300000,0,0,1]. The milliseconds are null where the selector is never evaluated. A call of info without a second
+ * argument also has target_info, after its argument, whose bytes are null (docs/guide/bindings.md, "When a query reads"). */
 uint32_t promql_windows(const char *query, size_t query_length, const struct promql_times *times, char *buffer, size_t buffer_size,
                         struct promql_result *result);
 

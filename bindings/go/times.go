@@ -42,17 +42,19 @@ type EvalTimes struct {
 }
 
 // Window says what a selector reads over all times of a query: the samples from First through Last. Selector is the selector as it prints
-// without its range. Never says that it is never evaluated; then First and Last are zero.
+// without its range. Never says that it is never evaluated; then First and Last are zero. The selector is the bytes of the query from Start
+// up to End, with its range. Both are 0 for a target_info that is not in the query.
 type Window struct {
 	Selector    string
 	First, Last time.Time
 	Never       bool
+	Start, End  int
 }
 
-// UnmarshalJSON reads a window as the library writes it: ["a",-300000,0], or ["a",null,null].
+// UnmarshalJSON reads a window as the library writes it: ["a",-300000,0,0,1], or ["a",null,null,0,1].
 func (w *Window) UnmarshalJSON(text []byte) error {
 	var first, last *int64
-	if err := json.Unmarshal(text, &[]any{&w.Selector, &first, &last}); err != nil {
+	if err := json.Unmarshal(text, &[]any{&w.Selector, &first, &last, &w.Start, &w.End}); err != nil {
 		return err
 	}
 	if first == nil || last == nil {

@@ -18,9 +18,9 @@ func TestWindows(t *testing.T) {
 	}
 	found, err = promql.Windows("info(rate(a{b='é'}[5m] @ start() offset -1m)) + max_over_time(b[1m:1h])", times)
 	wanted := []promql.Window{
-		{Selector: `a{b="é"} @ start() offset -1m`, First: at(760), Last: at(1060)},
+		{Selector: `a{b="é"} @ start() offset -1m`, First: at(760), Last: at(1060), Start: 10, End: 44},
 		{Selector: "target_info", First: at(700), Last: at(1400)},
-		{Selector: "b", Never: true},
+		{Selector: "b", Never: true, Start: 63, End: 64},
 	}
 	if err != nil || !reflect.DeepEqual(found, wanted) {
 		t.Errorf("%v %v", found, err)
@@ -28,8 +28,8 @@ func TestWindows(t *testing.T) {
 	times.ClosedLeft, times.Lookback, times.DefaultStep = false, time.Minute, 7*time.Second
 	found, err = promql.Windows("a + max_over_time(b[20s:])", times)
 	wanted = []promql.Window{
-		{Selector: "a", First: at(940).Add(time.Millisecond), Last: at(1400)},
-		{Selector: "b", First: at(927).Add(time.Millisecond), Last: at(1400)},
+		{Selector: "a", First: at(940).Add(time.Millisecond), Last: at(1400), End: 1},
+		{Selector: "b", First: at(927).Add(time.Millisecond), Last: at(1400), Start: 18, End: 19},
 	}
 	if err != nil || !reflect.DeepEqual(found, wanted) {
 		t.Errorf("%v %v", found, err)

@@ -575,12 +575,14 @@ static void test_windows(void)
 {
     CHECK(gives(of_query(CALL_WINDOWS, "1 + time()"), PROMQL_OK, "[]"));
     CHECK(gives(of_query(CALL_WINDOWS, "rate(a{b='\xc3\xa9'}[5m] offset -1m @ start())"), PROMQL_OK,
-                "[[\"a{b=\\\"\xc3\xa9\\\"} @ start() offset -1m\",760000,1060000]]"));
-    CHECK(gives(of_query(CALL_WINDOWS, "topk(scalar(b offset 1m), a)"), PROMQL_OK, "[[\"b offset 1m\",640000,1340000],[\"a\",700000,1400000]]"));
-    CHECK(gives(of_query(CALL_WINDOWS, "info(a offset 1m)"), PROMQL_OK, "[[\"a offset 1m\",640000,1340000],[\"target_info\",700000,1400000]]"));
-    CHECK(gives(of_query(CALL_WINDOWS, "a[1m:1h] offset 1m"), PROMQL_OK, "[[\"a\",null,null]]"));
+                "[[\"a{b=\\\"\xc3\xa9\\\"} @ start() offset -1m\",760000,1060000,5,39]]"));
+    CHECK(gives(of_query(CALL_WINDOWS, "topk(scalar(b offset 1m), a)"), PROMQL_OK,
+                "[[\"b offset 1m\",640000,1340000,12,23],[\"a\",700000,1400000,26,27]]"));
+    CHECK(gives(of_query(CALL_WINDOWS, "info(a offset 1m) + (c)"), PROMQL_OK,
+                "[[\"a offset 1m\",640000,1340000,5,16],[\"target_info\",700000,1400000,null,null],[\"c\",700000,1400000,21,22]]"));
+    CHECK(gives(of_query(CALL_WINDOWS, "a[1m:1h] offset 1m"), PROMQL_OK, "[[\"a\",null,null,0,1]]"));
     CHECK(gives(of_query(CALL_WINDOWS, "a @ 9223372036854775.807"), PROMQL_OK,
-                "[[\"a @ 9223372036854775.807\",9223372036854475807,9223372036854775807]]"));
+                "[[\"a @ 9223372036854775.807\",9223372036854475807,9223372036854775807,0,24]]"));
     CHECK(gives(of_query(CALL_WINDOWS, "b + a @ -9223372036854775.808"), PROMQL_TIME_OVERFLOW,
                 "a time of `a @ -9223372036854775.808` is below -2^63 or above 2^63 - 1 milliseconds"));
     CHECK(has_place(of_query(CALL_WINDOWS, "b + a @ -9223372036854775.808"), 0, 0, 0, 0));
@@ -588,11 +590,11 @@ static void test_windows(void)
     CHECK(has_place(of_query(CALL_WINDOWS, "1 +"), 3, 3, 1, 4));
     CHECK(gives(of_query(CALL_WINDOWS, "\xff"), PROMQL_NOT_UTF8, "input is not UTF-8"));
     times.left_open = 1;
-    CHECK(gives(of_query(CALL_WINDOWS, "a"), PROMQL_OK, "[[\"a\",700001,1400000]]"));
+    CHECK(gives(of_query(CALL_WINDOWS, "a"), PROMQL_OK, "[[\"a\",700001,1400000,0,1]]"));
     times.left_open = 0;
     struct promql_times other = times;
     times = (struct promql_times){-1, -1, 0, 1, 7, 0};
-    CHECK(gives(of_query(CALL_WINDOWS, "a + max_over_time(b[20ms:])"), PROMQL_OK, "[[\"a\",-2,-1],[\"b\",-22,-7]]"));
+    CHECK(gives(of_query(CALL_WINDOWS, "a + max_over_time(b[20ms:])"), PROMQL_OK, "[[\"a\",-2,-1,0,1],[\"b\",-22,-7,18,19]]"));
     times = other;
     struct promql_result result;
     CHECK(promql_windows("a", 1, NULL, NULL, 0, &result) == PROMQL_BAD_POINTER && result.status == PROMQL_BAD_POINTER);

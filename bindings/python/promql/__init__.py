@@ -478,11 +478,13 @@ def _tokens(text: str) -> Sequence[Tuple[str, int, int]]:
 
 class Window(NamedTuple):
     """What a selector, as it prints without its range, reads over all times of a query: the samples from the millisecond `first` through
-    `last`, or None where it is never evaluated."""
+    `last`, or None where it is never evaluated. It is `query[start:end]`, or None where that is no part of the query."""
 
     selector: str
     first: Optional[int]
     last: Optional[int]
+    start: Optional[int] = None
+    end: Optional[int] = None
 
 
 def windows(
@@ -491,11 +493,15 @@ def windows(
     """When each selector of a query reads, in the order of a walk, at the times from `start` to `end` by `step`, all in milliseconds
     (docs/guide/bindings.md, "When a query reads"). Raises TimeOverflowError where 64 bits do not hold a window.
 
-    >>> promql.windows("rate(a[5m] offset 1h) / b", 7_200_000, 10_800_000, 60_000, left_open=False)
-    [Window(selector='a offset 1h', first=3300000, last=7200000), Window(selector='b', first=6900000, last=10800000)]
+    >>> promql.windows("rate(a[5m] offset 1h)", 7_200_000, 10_800_000, 60_000, left_open=False)
+    [Window(selector='a offset 1h', first=3300000, last=7200000, start=5, end=20)]
     """
     times = _times(start, end, step, lookback, default_step, left_open)
-    return [Window(*row) for row in json.loads(_text(query, _caller.windows(query, *times)))]
+    found = [Window(*row) for row in json.loads(_text(query, _caller.windows(query, *times)))]
+    if query.isascii():
+        return found
+    before = _characters(query)
+    return [it if it.start is None or it.end is None else it._replace(start=before[it.start], end=before[it.end]) for it in found]
 
 
 class Reach(NamedTuple):

@@ -326,11 +326,17 @@ class Texts(unittest.TestCase):
     def test_windows(self):
         """When selectors read, in Prometheus 3 and 2."""
         query = "info(rate(a{b='é'}[5m] @ start() offset -1m)) + max_over_time(b[1m:1h])"
-        wanted = [('a{b="é"} @ start() offset -1m', 760_000, 1_060_000), ("target_info", 700_000, 1_400_000), ("b", None, None)]
+        wanted = [
+            ('a{b="é"} @ start() offset -1m', 760_000, 1_060_000, 10, 43),
+            ("target_info", 700_000, 1_400_000, None, None),
+            ("b", None, None, 62, 63),
+        ]
         self.assertEqual(promql.windows(query, 1_000_000, 1_500_000, 200_000, left_open=False), wanted)
         found = promql.windows("a + max_over_time(b[20s:])", 1_000_000, 1_500_000, 200_000, lookback=60_000, default_step=7000)
-        self.assertEqual(found, [("a", 940_001, 1_400_000), ("b", 927_001, 1_400_000)])
-        self.assertEqual(promql.windows("a", -(2**63) + 300_000, -(2**63) + 300_000, left_open=False), [("a", -(2**63), -(2**63) + 300_000)])
+        self.assertEqual(found, [("a", 940_001, 1_400_000, 0, 1), ("b", 927_001, 1_400_000, 18, 19)])
+        first = -(2**63)
+        self.assertEqual(promql.windows("a", first + 300_000, first + 300_000, left_open=False), [("a", first, first + 300_000, 0, 1)])
+        self.assertEqual(promql.windows("info((a))", 0, 0)[1:], [("target_info", -299_999, 0, None, None)])
         self.assertEqual(promql.windows("1", 0, 0), [])
         with self.assertRaises(promql.TimeOverflowError) as raised:
             promql.windows("b + a @ -9223372036854775.808", 0, 0)

@@ -3,6 +3,7 @@
 use crate::json::{self, Value, Values, write_string};
 use crate::library::{self, CallTimes};
 use crate::{Error, milliseconds, text_of};
+use std::ops::Range;
 use std::time::{Duration, SystemTime};
 
 /// When a query is evaluated, and how far an engine looks back (`docs/reference/when.md` of the repository, "Times").
@@ -54,6 +55,8 @@ pub struct Window {
     pub selector: String,
     /// From the first through the last sample; `None` where the selector is never evaluated.
     pub samples: Option<(SystemTime, SystemTime)>,
+    /// The bytes of the query that the selector is, with its range; `None` for a `target_info` that is not in the query.
+    pub range: Option<Range<usize>>,
 }
 
 /// When each selector of a query reads, over all its times, in the order of a walk. A call of `info` without a second argument also has
@@ -66,6 +69,7 @@ pub struct Window {
 /// let times = EvalTimes { left_open: false, ..EvalTimes::range(at(7200), at(10_800), Duration::from_secs(60)) };
 /// let found = windows("rate(a[5m] offset 1h)", times)?;
 /// assert_eq!(found[0].samples, Some((at(3300), at(7200))));
+/// assert_eq!(found[0].range, Some(5..20));
 /// # Ok::<(), promql_proved::Error>(())
 /// ```
 ///
@@ -87,13 +91,22 @@ fn rows_of<T>(shown: &str, row: impl Fn(Values<'_>) -> Option<T>) -> Vec<T> {
     }
 }
 
-/// A window, as the library writes it: `["a",-300000,0]`.
+/// A window, as the library writes it: `["a",-300000,0,0,1]`.
 fn window(mut values: Values<'_>) -> Option<Window> {
-    match (values.next()?, values.next()?, values.next()?) {
-        (Value::String(selector), first, last) => {
+    match (values.next()?, values.next()?, values.next()?, values.next()?, values.next()?) {
+        (Value::String(selector), first, last, start, end) => {
             let samples = moment(first).and_then(|first| Some((first, moment(last)?)));
-            Some(Window { selector: selector.to_string(), samples })
+            let range = byte(start).and_then(|start| Some(start..byte(end)?));
+            Some(Window { selector: selector.to_string(), samples, range })
         }
+        _ => None,
+    }
+}
+
+/// The number of a byte; `None` where it is null.
+fn byte(value: Value<'_>) -> Option<usize> {
+    match value {
+        Value::Number(number) => number.parse().ok(),
         _ => None,
     }
 }

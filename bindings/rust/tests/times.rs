@@ -2,6 +2,7 @@
 
 use promql_proved::{Error, EvalTimes, Reach, Reached, Window, is_constant, last_read, may_read, pin, reaches, windows};
 use std::collections::HashMap;
+use std::ops::Range;
 use std::time::{Duration, SystemTime, UNIX_EPOCH};
 
 fn at(seconds: u64) -> SystemTime {
@@ -13,23 +14,27 @@ fn closed() -> EvalTimes {
     EvalTimes { left_open: false, ..EvalTimes::range(at(1000), at(1500), Duration::from_secs(200)) }
 }
 
-fn window(selector: &str, samples: Option<(SystemTime, SystemTime)>) -> Window {
-    Window { selector: selector.to_string(), samples }
+fn window(selector: &str, samples: Option<(SystemTime, SystemTime)>, range: Option<Range<usize>>) -> Window {
+    Window { selector: selector.to_string(), samples, range }
 }
 
 #[test]
 fn each_selector_has_a_window() {
     let found = windows("info(rate(a{b='é'}[5m] @ start() offset -1m)) + max_over_time(b[1m:1h])", closed()).unwrap();
     let wanted = [
-        window("a{b=\"é\"} @ start() offset -1m", Some((at(760), at(1060)))),
-        window("target_info", Some((at(700), at(1400)))),
-        window("b", None),
+        window("a{b=\"é\"} @ start() offset -1m", Some((at(760), at(1060))), Some(10..44)),
+        window("target_info", Some((at(700), at(1400))), None),
+        window("b", None, Some(63..64)),
     ];
     assert_eq!(found, wanted);
     let (lookback, default_step) = (Duration::from_secs(60), Duration::from_secs(7));
     let found = windows("a + max_over_time(b[20s:])", EvalTimes { left_open: true, lookback, default_step, ..closed() }).unwrap();
     let millisecond = Duration::from_millis(1);
-    assert_eq!(found, [window("a", Some((at(940) + millisecond, at(1400)))), window("b", Some((at(927) + millisecond, at(1400))))]);
+    let wanted = [
+        window("a", Some((at(940) + millisecond, at(1400))), Some(0..1)),
+        window("b", Some((at(927) + millisecond, at(1400))), Some(18..19)),
+    ];
+    assert_eq!(found, wanted);
     assert!(windows("1", closed()).unwrap().is_empty());
     let before = windows("a offset 1h", EvalTimes { left_open: false, ..EvalTimes::instant(at(0)) }).unwrap();
     assert_eq!(before[0].samples, Some((UNIX_EPOCH - Duration::from_secs(3900), UNIX_EPOCH - Duration::from_secs(3600))));
