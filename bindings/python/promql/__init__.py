@@ -84,7 +84,7 @@ __all__ = [
     "version",
     "windows",
 ]
-__version__ = "0.6.0"
+__version__ = "0.7.0"
 
 
 def __dir__() -> List[str]:
