@@ -10,6 +10,7 @@ import (
 	"time"
 
 	"wellapron.example/promql"
+	"wellapron.example/promql/cmd/promql-proxy/internal/cache"
 	"wellapron.example/promql/cmd/promql-proxy/internal/endpoint"
 	"wellapron.example/promql/cmd/promql-proxy/internal/headers"
 	"wellapron.example/promql/cmd/promql-proxy/internal/logs"
@@ -31,9 +32,19 @@ type options struct {
 	maxBody, maxAnswer               int64
 	maxQuery, maxPatterns            uint
 	maxRequests                      int
+	cache                            cacheOptions
 	logQueries, version              bool
 	errorOnConflict                  bool
 	logLevel, target                 string
+}
+
+// cacheOptions are those of the cache.
+type cacheOptions struct {
+	on                  bool
+	split, settle, keep time.Duration
+	bytes               int64
+	parallel            int
+	store               string
 }
 
 // words is a flag that may be given several times.
@@ -89,6 +100,7 @@ func (o *options) flags(out io.Writer) *flag.FlagSet {
 	flags.Var(&o.shared, "shared-metric", "the name of a metric that every tenant sees whole; several times for several")
 	flags.Var(&o.more, "pass-parameter", "the name of one more parameter that the Prometheus gets; several times for several")
 	o.addLimits(flags)
+	o.cache.addFlags(flags)
 	flags.StringVar(&o.target, "target", "prometheus-3", "what reads the queries: prometheus-3, or rules, to let byte escapes through")
 	flags.StringVar(&o.logLevel, "log-level", "info", "the least level that is logged: info, warn or error")
 	flags.BoolVar(&o.logQueries, "log-queries", false, "log queries, selectors and messages about them")
@@ -118,6 +130,16 @@ func (o *options) addLimits(flags *flag.FlagSet) {
 	flags.Int64Var(&o.maxAnswer, "max-answer", 32<<20, "the most bytes of an answer that is filtered")
 	flags.UintVar(&o.maxQuery, "max-query", 32768, "the most bytes of a query, as it is asked and as it is sent")
 	flags.UintVar(&o.maxPatterns, "max-patterns", 16000, "the largest size of a query's patterns together")
+}
+
+func (c *cacheOptions) addFlags(flags *flag.FlagSet) {
+	flags.BoolVar(&c.on, "cache", false, "answer range queries in parts, and keep the parts that are final")
+	flags.DurationVar(&c.split, "cache-split", 24*time.Hour, "the length at whose multiples a range is cut into parts")
+	flags.DurationVar(&c.settle, "cache-settle", 10*time.Minute, "how long after its time a sample may come; a part is final after that")
+	flags.DurationVar(&c.keep, "cache-keep", 24*time.Hour, "how long a part is kept at most")
+	flags.Int64Var(&c.bytes, "cache-bytes", 256<<20, "the most bytes of the parts that are kept in memory")
+	flags.IntVar(&c.parallel, "cache-parallel", 16, "the most parts that the Prometheus is asked for at a time")
+	flags.StringVar(&c.store, "cache-store", "", "a memcached that keeps the parts, as in memcached://localhost:11211; memory where it is empty")
 }
 
 // check says what is wrong with the options.
@@ -155,7 +177,28 @@ func (o *options) check() error {
 	if _, err := o.newAlertmanager(); err != nil {
 		return fmt.Errorf("-alertmanager: %w", err)
 	}
+	if err := o.cache.check(o.maxAnswer); err != nil {
+		return err
+	}
 	return o.checkLimits()
+}
+
+// check says what is wrong with the options of the cache.
+func (c *cacheOptions) check(maxAnswer int64) error {
+	switch {
+	case c.split < time.Minute || c.split%time.Millisecond != 0:
+		return errors.New("-cache-split is at least a minute, in whole milliseconds")
+	case c.settle < 0 || c.keep < time.Second:
+		return errors.New("-cache-settle is at least 0, and -cache-keep at least a second")
+	case c.bytes < 1 || c.parallel < 1:
+		return errors.New("-cache-bytes and -cache-parallel are at least 1")
+	case c.store == "":
+		return nil
+	}
+	if _, err := cache.NewMemcached(c.store, maxAnswer, nil); err != nil {
+		return fmt.Errorf("-cache-store: %w", err)
+	}
+	return nil
 }
 
 // newAlertmanager returns the Alertmanager, or nil where there is none.

@@ -9,6 +9,7 @@ import (
 	"time"
 
 	"wellapron.example/promql"
+	"wellapron.example/promql/cmd/promql-proxy/internal/cache"
 	"wellapron.example/promql/cmd/promql-proxy/internal/endpoint"
 	"wellapron.example/promql/cmd/promql-proxy/internal/front"
 	"wellapron.example/promql/cmd/promql-proxy/internal/logs"
@@ -49,6 +50,10 @@ func newService(o *options, log *logs.Logger) (*service, error) {
 		return nil, err
 	}
 	counted := metrics.New(time.Now())
+	kept, err := newCache(o, counted)
+	if err != nil {
+		return nil, err
+	}
 	handler := &front.Front{
 		Upstream:        behind,
 		Alertmanager:    alertmanager,
@@ -64,11 +69,39 @@ func newService(o *options, log *logs.Logger) (*service, error) {
 		MaxBody:         o.maxBody,
 		MaxAnswer:       o.maxAnswer,
 		Timeout:         o.upstreamTimeout,
+		Cache:           kept,
 	}
 	s := &service{options: o, log: log, behind: behind, internal: &front.Internal{Metrics: counted}}
 	s.clients = s.server(handler, o.writeTimeout)
 	s.inside = s.server(s.internal, o.readTimeout)
 	return s, nil
+}
+
+// newCache returns the cache that the options ask for, or nil.
+func newCache(o *options, counted *metrics.Metrics) (*cache.Cache, error) {
+	if !o.cache.on {
+		return nil, nil
+	}
+	var store cache.Store = cache.NewMemory(o.cache.bytes, counted)
+	if o.cache.store != "" {
+		var err error
+		if store, err = cache.NewMemcached(o.cache.store, o.maxAnswer, counted.CacheFailure); err != nil {
+			return nil, fmt.Errorf("-cache-store: %w", err)
+		}
+	}
+	access := o.access
+	return &cache.Cache{
+		Store:     store,
+		Server:    fmt.Sprintf("%q", []string{o.upstream, access.User, access.PasswordFile, access.BearerFile, access.CertFile}),
+		Split:     o.cache.split,
+		Settle:    o.cache.settle,
+		Keep:      o.cache.keep,
+		MaxAnswer: o.maxAnswer,
+		Timeout:   o.upstreamTimeout,
+		Places:    make(chan struct{}, o.cache.parallel),
+		Counts:    counted,
+		Now:       time.Now,
+	}, nil
 }
 
 // setLibrary sets what the library reads, and looks whether the matcher of the tenant is within that.

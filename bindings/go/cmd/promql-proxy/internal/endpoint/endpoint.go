@@ -20,6 +20,8 @@ type Endpoint struct {
 	Methods []string
 	// Server is the server behind that is asked.
 	Server Server
+	// Ranged says that the answer is to a query over a range of times, so that it may come in parts.
+	Ranged bool
 	// JSON says that the body of a request is JSON, and not a form.
 	JSON bool
 	// The parameters that may be there once, and those that may be there several times.
@@ -42,6 +44,8 @@ type Plan struct {
 	Server       Server
 	Method, Path string
 	Parameters   url.Values
+	// Ranged is that of the endpoint.
+	Ranged bool
 	// Body is JSON, and is nil where there is none.
 	Body []byte
 	// Guard is a plan that has to come to its end before this one. Its answer goes nowhere.
@@ -56,7 +60,7 @@ type Plan struct {
 
 // Plan returns the plan for a request of this method and this path.
 func (e *Endpoint) Plan(method, path string, sent form.Sent, enforcement Enforcement) (*Plan, *failure.Error) {
-	plan := &Plan{Server: e.Server, Method: method, Path: path, Parameters: form.Merge(sent.Address, sent.Form), Body: sent.JSON}
+	plan := &Plan{Server: e.Server, Method: method, Path: path, Parameters: form.Merge(sent.Address, sent.Form), Ranged: e.Ranged, Body: sent.JSON}
 	if err := form.Check(plan.Parameters, e.once, e.several, set([]string{queryName, matchName})); err != nil {
 		return nil, err
 	}
@@ -104,10 +108,12 @@ func NewTable(more []string) *Table {
 	federate.Methods = get
 	values := selectors("label_values", "start", "end", "limit")
 	values.change = changeValues
+	ranged := query("query_range", "start", "end", "step", "timeout", "stats", "lookback_delta", "limit")
+	ranged.Ranged = true
 	return &Table{
 		paths: map[string]*Endpoint{
 			prefix + "query":           query("query", "time", "timeout", "stats", "lookback_delta", "limit"),
-			prefix + "query_range":     query("query_range", "start", "end", "step", "timeout", "stats", "lookback_delta", "limit"),
+			prefix + "query_range":     ranged,
 			prefix + "query_exemplars": query("query_exemplars", "start", "end"),
 			prefix + "series":          selectors("series", "start", "end", "limit"),
 			prefix + "labels":          selectors("labels", "start", "end", "limit"),

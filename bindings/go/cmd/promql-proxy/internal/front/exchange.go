@@ -104,6 +104,11 @@ func (e *exchange) carryOut(plan *endpoint.Plan, header http.Header) *failure.Er
 			return err
 		}
 	}
+	if plan.Ranged && e.Cache != nil && e.takesJSON() {
+		if is, err := e.inParts(ctx, plan, header); is {
+			return err
+		}
+	}
 	return e.pass(ctx, plan, header)
 }
 
@@ -147,6 +152,11 @@ func (e *exchange) pass(ctx context.Context, plan *endpoint.Plan, header http.He
 		return failed
 	}
 	defer response.Body.Close()
+	return e.passOn(ctx, plan, response)
+}
+
+// passOn gives the answer of a server behind to the client.
+func (e *exchange) passOn(ctx context.Context, plan *endpoint.Plan, response *http.Response) *failure.Error {
 	if response.StatusCode >= 400 && (!isJSON(response) || asksWho(response)) {
 		return e.failedBehind(plan, response)
 	}

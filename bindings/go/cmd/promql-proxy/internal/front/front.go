@@ -5,6 +5,7 @@ import (
 	"net/http"
 	"time"
 
+	"wellapron.example/promql/cmd/promql-proxy/internal/cache"
 	"wellapron.example/promql/cmd/promql-proxy/internal/endpoint"
 	"wellapron.example/promql/cmd/promql-proxy/internal/headers"
 	"wellapron.example/promql/cmd/promql-proxy/internal/logs"
@@ -35,6 +36,8 @@ type Front struct {
 	Places chan struct{}
 	// Timeout is how long the server behind may take for its whole answer.
 	Timeout time.Duration
+	// Cache answers range queries in parts. It is nil where none does.
+	Cache *cache.Cache
 }
 
 func (f *Front) ServeHTTP(w http.ResponseWriter, r *http.Request) {

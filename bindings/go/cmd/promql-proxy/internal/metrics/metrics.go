@@ -10,6 +10,7 @@ import (
 	"time"
 
 	"wellapron.example/promql"
+	"wellapron.example/promql/cmd/promql-proxy/internal/cache"
 	"wellapron.example/promql/cmd/promql-proxy/internal/failure"
 )
 
@@ -46,6 +47,15 @@ type Metrics struct {
 	durations map[string]*durations
 	refused   map[failure.Reason]uint64
 	upstream  map[response]uint64
+	cache     cached
+}
+
+// cached is what the cache tells.
+type cached struct {
+	queries, parts      map[cache.Result]uint64
+	entries             int
+	bytes               int64
+	evictions, failures uint64
 }
 
 // New returns metrics that have counted nothing.
@@ -56,6 +66,7 @@ func New(now time.Time) *Metrics {
 		durations: map[string]*durations{},
 		refused:   map[failure.Reason]uint64{},
 		upstream:  map[response]uint64{},
+		cache:     cached{queries: map[cache.Result]uint64{}, parts: map[cache.Result]uint64{}},
 	}
 }
 
@@ -100,6 +111,35 @@ func (m *Metrics) Upstream(server string, status int) {
 	m.upstream[response{server, status}]++
 }
 
+// CacheQuery counts a range query by what came of it.
+func (m *Metrics) CacheQuery(result cache.Result) {
+	m.mutex.Lock()
+	defer m.mutex.Unlock()
+	m.cache.queries[result]++
+}
+
+// CachePart counts a part of a range query by what came of it.
+func (m *Metrics) CachePart(result cache.Result) {
+	m.mutex.Lock()
+	defer m.mutex.Unlock()
+	m.cache.parts[result]++
+}
+
+// CacheSize keeps what the store in memory has, and counts the entries that it dropped.
+func (m *Metrics) CacheSize(entries int, bytes int64, dropped int) {
+	m.mutex.Lock()
+	defer m.mutex.Unlock()
+	m.cache.entries, m.cache.bytes = entries, bytes
+	m.cache.evictions += uint64(dropped)
+}
+
+// CacheFailure counts a call of the store that failed.
+func (m *Metrics) CacheFailure() {
+	m.mutex.Lock()
+	defer m.mutex.Unlock()
+	m.cache.failures++
+}
+
 // known returns a method that clients may name, and "other" for all that they make up.
 func known(method string) string {
 	switch method {
@@ -116,6 +156,7 @@ func (m *Metrics) WriteTo(out io.Writer) (int64, error) {
 	var page page
 	m.writeProcess(&page)
 	m.writeCounters(&page)
+	m.writeCache(&page)
 	m.writeDurations(&page)
 	return page.writeTo(out)
 }
@@ -146,6 +187,22 @@ func (m *Metrics) writeCounters(page *page) {
 	page.counter("promql_proxy_requests_total", "Requests that were answered.", requests)
 	page.counter("promql_proxy_requests_refused_total", "Requests that got an error of the proxy's own, by its reason.", refused)
 	page.counter("promql_proxy_upstream_responses_total", "Responses of the servers behind.", upstream)
+}
+
+func (m *Metrics) writeCache(page *page) {
+	byResult := func(counts map[cache.Result]uint64) map[string]uint64 {
+		made := map[string]uint64{}
+		for result, count := range counts {
+			made[labels("result", string(result))] = count
+		}
+		return made
+	}
+	page.counter("promql_proxy_cache_queries_total", "Range queries, by what came of them.", byResult(m.cache.queries))
+	page.counter("promql_proxy_cache_parts_total", "Parts of range queries, by what came of them.", byResult(m.cache.parts))
+	page.counter("promql_proxy_cache_evictions_total", "Entries that were dropped for want of room.", map[string]uint64{"": m.cache.evictions})
+	page.counter("promql_proxy_cache_store_failures_total", "Calls of the store that failed.", map[string]uint64{"": m.cache.failures})
+	page.gauge("promql_proxy_cache_entries", "Entries of the store in memory.", "", m.cache.entries)
+	page.gauge("promql_proxy_cache_bytes", "Bytes of the store in memory, with its keys.", "", m.cache.bytes)
 }
 
 func (m *Metrics) writeDurations(page *page) {

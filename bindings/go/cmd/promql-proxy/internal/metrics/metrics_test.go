@@ -5,6 +5,7 @@ import (
 	"testing"
 	"time"
 
+	"wellapron.example/promql/cmd/promql-proxy/internal/cache"
 	"wellapron.example/promql/cmd/promql-proxy/internal/failure"
 )
 
@@ -21,6 +22,25 @@ promql_proxy_requests_refused_total{reason="query"} 1
 # TYPE promql_proxy_upstream_responses_total counter
 promql_proxy_upstream_responses_total{server="alertmanager",code="200"} 1
 promql_proxy_upstream_responses_total{server="prometheus",code="200"} 1
+# HELP promql_proxy_cache_queries_total Range queries, by what came of them.
+# TYPE promql_proxy_cache_queries_total counter
+promql_proxy_cache_queries_total{result="partial"} 1
+# HELP promql_proxy_cache_parts_total Parts of range queries, by what came of them.
+# TYPE promql_proxy_cache_parts_total counter
+promql_proxy_cache_parts_total{result="hit"} 2
+promql_proxy_cache_parts_total{result="miss"} 1
+# HELP promql_proxy_cache_evictions_total Entries that were dropped for want of room.
+# TYPE promql_proxy_cache_evictions_total counter
+promql_proxy_cache_evictions_total 3
+# HELP promql_proxy_cache_store_failures_total Calls of the store that failed.
+# TYPE promql_proxy_cache_store_failures_total counter
+promql_proxy_cache_store_failures_total 1
+# HELP promql_proxy_cache_entries Entries of the store in memory.
+# TYPE promql_proxy_cache_entries gauge
+promql_proxy_cache_entries 4
+# HELP promql_proxy_cache_bytes Bytes of the store in memory, with its keys.
+# TYPE promql_proxy_cache_bytes gauge
+promql_proxy_cache_bytes 2048
 # HELP promql_proxy_request_duration_seconds How long a request took, until its answer was written.
 # TYPE promql_proxy_request_duration_seconds histogram
 promql_proxy_request_duration_seconds_bucket{endpoint="none",le="0.001"} 0
@@ -68,6 +88,13 @@ func TestPage(t *testing.T) {
 	counted.Refuse(failure.Path)
 	counted.Upstream("prometheus", 200)
 	counted.Upstream("alertmanager", 200)
+	counted.CacheQuery(cache.Partial)
+	counted.CachePart(cache.Hit)
+	counted.CachePart(cache.Hit)
+	counted.CachePart(cache.Miss)
+	counted.CacheSize(5, 4096, 1)
+	counted.CacheSize(4, 2048, 2)
+	counted.CacheFailure()
 	var out strings.Builder
 	if written, err := counted.WriteTo(&out); err != nil || written != int64(out.Len()) {
 		t.Errorf("%d %v", written, err)

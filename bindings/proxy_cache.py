@@ -1,0 +1,347 @@
+#!/usr/bin/env python3
+"""Holds the cache of promql-proxy against a real Prometheus whose data grows meanwhile (docs/guide/cache.md).
+
+usage: bindings/proxy_cache.py PROXY [--count 1000]        by a Python that finds the package promql, with Debian's prometheus and promtool
+
+Starts a server on 127.0.0.1 with a day of samples of two tenants, which scrapes more of them each second, and the program PROXY before it:
+
+- random range queries get, byte for byte, what the server gives to the enforced query: twice each, and once more when all were asked;
+- many clients at once that ask one query have each part asked for once;
+- while answers are cut off or fail, no half of one is kept;
+- two tenants, by several ways of naming them, get the answers to their own queries alone;
+- two proxies share what a memcached keeps, and one that lies changes no answer, where Debian's memcached is installed.
+
+Prints what fails, and last 'N passed, M failed'. bindings/test.sh --proxy calls this, and bounds its time.
+"""
+
+import argparse
+import collections
+import contextlib
+import datetime
+import random
+import re
+import shutil
+import socket
+import subprocess
+import sys
+import tempfile
+import threading
+import time
+import urllib.parse
+from collections.abc import Iterator, Mapping, Sequence
+from http.client import HTTPConnection, HTTPException
+from http.server import BaseHTTPRequestHandler, ThreadingHTTPServer
+from pathlib import Path
+from typing import Any, NamedTuple
+
+import promql
+from proxy_client import Proxy, check, checks, free_port, get, request_text, send
+
+import compare as meaning  # type: ignore[import]
+
+TENANTS = ("a", "b")
+# The samples before the server starts: a day, one each minute.
+STEP, SAMPLES = 60, 1440
+RANGE = "/api/v1/query_range"
+# How long after its time a sample comes at most: a scrape is each second.
+SETTLE = 15
+# Over a range Prometheus 2.42 moves what `predict_linear` reads with the time of evaluation, though it has an `@`.
+FAULT = re.compile(r"predict_linear.*@")
+
+
+# ---- the data
+
+
+class Data:
+    """The series of both tenants: each has a value for each second, whenever it is asked for."""
+
+    def __init__(self) -> None:
+        rng = random.Random(1)
+        self.begin = int(time.time()) // STEP * STEP - STEP * SAMPLES
+        self.rates = [(name, labels, rng.randrange(1, 40)) for name, labels in self.series()]
+
+    @staticmethod
+    def series() -> Iterator[tuple[str, str]]:
+        """Names and labels, some of them such as JSON escapes and sorts in ways of its own."""
+        for tenant in TENANTS:
+            for job in ("api", "web", "d<b>&"):
+                for instance in ("i1", "i2"):
+                    labels = f'tenant="{tenant}",job="{job}",instance="{instance}"'
+                    yield "up", labels
+                    yield "memory_bytes", labels
+                    yield "request_seconds_sum", labels
+                    for code in ("200", "500"):
+                        yield "http_requests_total", f'{labels},code="{code}"'
+                    for bound in ("0.1", "1", "+Inf"):
+                        yield "request_seconds_bucket", f'{labels},le="{bound}"'
+                yield "memory_bytes", f'tenant="{tenant}",job="{job}",Zone="é\\"{job}"'
+
+    def value(self, number: int, rate: int, moment: int) -> float | None:
+        """A counter that resets, or a gauge; half of the gauges are not there half of the time."""
+        name = self.rates[number][0]
+        age = moment - self.begin
+        if name in ("up", "memory_bytes"):
+            is_gone = number % 2 == 1 and age // 4000 % 2 == 1
+            return None if is_gone else (age // 30 * rate * 7919 % 1013) / 4
+        return (age % (7000 + rate * 100)) * rate / 4
+
+    def lines(self, moment: int, has_time: bool) -> Iterator[str]:
+        """The samples of a moment."""
+        for number, (name, labels, rate) in enumerate(self.rates):
+            value = self.value(number, rate, moment)
+            if value is not None:
+                yield f"{name}{{{labels}}} {value}" + (f" {moment}" if has_time else "")
+
+    def past(self) -> Iterator[str]:
+        """The samples before the server starts, in the form of OpenMetrics: those of a series together."""
+        by_name: dict[str, list[str]] = collections.defaultdict(list)
+        for number in range(SAMPLES):
+            for line in self.lines(self.begin + STEP * number, True):
+                by_name[line.split("{")[0]].append(line)
+        for lines in by_name.values():
+            yield from lines
+        yield "# EOF"
+
+
+class Exporter(BaseHTTPRequestHandler):
+    """Shows the samples of now."""
+
+    data: Data
+
+    def do_GET(self) -> None:
+        """Answers."""
+        text = "\n".join([*self.data.lines(int(time.time()), False), ""]).encode()
+        self.send_response(200)
+        self.send_header("Content-Type", "text/plain; charset=utf-8")
+        self.send_header("Content-Length", str(len(text)))
+        self.end_headers()
+        self.wfile.write(text)
+
+    def log_message(self, *_: object) -> None:
+        """Says nothing."""
+
+
+class Past(meaning.Series):  # type: ignore[misc]
+    """All samples before the server starts, as one series of many names."""
+
+    def __init__(self, data: Data) -> None:
+        super().__init__("", {}, [])
+        self.data = data
+
+    def lines(self) -> Iterator[str]:
+        """The lines of a file of OpenMetrics but its last."""
+        for line in self.data.past():
+            if line != "# EOF":
+                yield line
+
+
+def served(handler: type[BaseHTTPRequestHandler], stack: contextlib.ExitStack) -> int:
+    """Starts a server of this process, and returns its port."""
+    server = ThreadingHTTPServer(("127.0.0.1", 0), handler)
+    server.daemon_threads = True
+    threading.Thread(target=server.serve_forever, daemon=True).start()
+    stack.callback(server.shutdown)
+    return server.server_port
+
+
+# ---- queries
+
+
+class Asked(NamedTuple):
+    """A range query as a client sends it."""
+
+    query: str
+    start: str
+    end: str
+    step: str
+
+    def parameters(self, matcher: str = "") -> Mapping[str, str]:
+        """What is sent: the query as it is, or enforced."""
+        query = promql.enforce(self.query, matcher) if matcher else self.query
+        return {"query": query, "start": self.start, "end": self.end, "step": self.step}
+
+
+class Maker(meaning.Maker):  # type: ignore[misc]
+    """Makes range queries within the day, most of which end a little before now, and some at or after now."""
+
+    def __init__(self, rng: random.Random, begin: int) -> None:
+        super().__init__(rng)
+        self.begin = begin
+
+    def times(self) -> str:
+        """Modifiers of a selector."""
+        moment = f" @ {self.begin + self.rng.randrange(-1000, STEP * SAMPLES + 600_000) / 1.0:.3f}"
+        at = self.rng.choice(("", "", "", "", " @ start()", " @ end()", moment))
+        offset = self.rng.choice(("", "", "", f" offset {self.rng.choice(meaning.DURATIONS)}", f" offset -{self.rng.choice(meaning.DURATIONS)}"))
+        return str(self.rng.choice((at + offset, offset + at)))
+
+    def moment(self, moment: float) -> str:
+        """A time, in one of the ways in which it can be sent."""
+        exact = datetime.datetime.fromtimestamp(round(moment, 3), datetime.timezone.utc)
+        return str(self.rng.choice((f"{moment:.0f}", f"{moment:.3f}", exact.isoformat(timespec="milliseconds").replace("+00:00", "Z"), f"{moment:.6f}")))
+
+    def asked(self) -> Asked:
+        """A query and its times."""
+        query = self.query()
+        while FAULT.search(query) or not is_accepted(query):
+            query = self.query()
+        step = self.rng.choice((15, 60, 60, 97, 300, 300, 1000, 0.5))
+        length = min(self.rng.choice((600, 3600, 6 * 3600, 12 * 3600, 20 * 3600)), 10_000 * step)
+        now = time.time()
+        end = now - self.rng.choice((0, 0, -500, 30, 600, 3600, 7200, self.rng.randrange(0, 20_000)))
+        end = end // step * step + self.rng.choice((0, 0, 0, 0.25, 7))
+        return Asked(query, self.moment(max(end - length, self.begin)), self.moment(end), self.rng.choice((f"{step:g}", f"{step:g}s" if step >= 1 else "500ms")))
+
+
+def is_accepted(query: str) -> bool:
+    """Whether the proxy takes a query."""
+    try:
+        promql.enforce(query, 'tenant="a"')
+    except promql.QueryError:
+        return False
+    return True
+
+
+# ---- requests
+
+
+class Client(threading.local):
+    """Asks servers by a connection to each that it keeps."""
+
+    def __init__(self) -> None:
+        self.connections: dict[int, HTTPConnection] = {}
+
+    def ask(self, port: int, parameters: Mapping[str, str], headers: Mapping[str, str] | None = None, path: str = RANGE) -> tuple[int, bytes]:
+        """The status and the body of an answer."""
+        target = f"{path}?{urllib.parse.urlencode(parameters)}"
+        for _ in range(2):
+            connection = self.connections.setdefault(port, HTTPConnection("127.0.0.1", port, timeout=60))
+            try:
+                connection.request("GET", target, headers=headers or {})
+                response = connection.getresponse()
+                return response.status, response.read()
+            except (OSError, HTTPException):
+                self.connections.pop(port).close()
+        return 0, b""
+
+
+client = Client()
+AS_A = {"X-Tenant": "a"}
+
+
+def counts_of(proxy: Proxy) -> dict[str, int]:
+    """The counters of a proxy."""
+    text = send(proxy.inside, request_text("GET", "/metrics")).body.decode()
+    return {name: int(float(value)) for name, value in re.findall(r"^(\S+) (\S+)$", text, re.M) if name.startswith("promql_proxy")}
+
+
+def parts_of(counts: Mapping[str, int], *results: str) -> int:
+    """How many parts came to one of these results."""
+    return sum(counts.get(f'promql_proxy_cache_parts_total{{result="{it}"}}', 0) for it in results)
+
+
+def asked_upstream(counts: Mapping[str, int]) -> int:
+    """How many answers a Prometheus gave."""
+    return sum(count for name, count in counts.items() if name.startswith('promql_proxy_upstream_responses_total{server="prometheus"'))
+
+
+def is_same(found: tuple[int, bytes], wanted: tuple[int, bytes]) -> bool:
+    """Whether two answers are one, but for which series a message names."""
+    if found[0] != 200 and found[0] == wanted[0]:
+        return re.sub(rb'"error":.*', b"", found[1]) == re.sub(rb'"error":.*', b"", wanted[1])
+    return found == wanted
+
+
+class World:
+    """The server with its data, and how proxies before it are made."""
+
+    def __init__(self, program: str, stack: contextlib.ExitStack) -> None:
+        self.program, self.stack = program, stack
+        self.data = Exporter.data = Data()
+        folder = Path(stack.enter_context(tempfile.TemporaryDirectory()))
+        settings = (
+            "scrape_configs:\n- job_name: live\n  honor_labels: true\n  scrape_interval: 1s\n"
+            f"  static_configs:\n  - targets: ['127.0.0.1:{served(Exporter, stack)}']\n"
+        )
+        self.server = meaning.Prometheus(folder / "server", [Past(self.data)], settings)
+        stack.callback(self.server.end)
+
+    def proxy(self, *options: str, port: int = 0) -> Proxy:
+        """Starts a proxy with a cache."""
+        words = ["-cache", "-cache-split", "1h", "-cache-settle", f"{SETTLE}s", "-tenant-header", "X-Tenant", *options]
+        made = Proxy(self.program, f"http://127.0.0.1:{port or self.server.port}", *words)
+        self.stack.callback(self.end, made)
+        return made
+
+    @staticmethod
+    def end(proxy: Proxy) -> None:
+        """Ends a proxy, and looks at how it ended and what it wrote."""
+        status, log = proxy.end()
+        check("the proxy ends", status == 0, (status, log[-300:]))
+        check("the log of the proxy has no panic", "panic" not in log, log[-300:])
+
+    def same(self, name: str, proxy: Proxy, asked: Asked, counts: collections.Counter[str]) -> None:
+        """Whether a query gets what the server gives, which may have more than one answer: data grows, and of equal values it takes any."""
+        wanted: list[tuple[int, bytes]] = []
+        for number in range(40):
+            wanted.append(client.ask(self.server.port, asked.parameters('tenant="a"')))
+            found = client.ask(proxy.port, asked.parameters(), AS_A)
+            wanted.append(client.ask(self.server.port, asked.parameters('tenant="a"')))
+            if any(is_same(found, it) for it in wanted[-2:]):
+                break
+            if number == 0:
+                counts["with another answer at first"] += 1
+        else:
+            if len(set(wanted)) > 1:
+                counts["left out, since the server has more than one answer"] += 1
+                return
+        counts["compared"] += 1
+        counts["with a result"] += found[0] == 200 and b'"metric"' in found[1]
+        counts["rejected by the server"] += found[0] != 200
+        check(f"{name}: {asked}", any(is_same(found, it) for it in wanted[-2:]), difference(found[1], wanted[-1][1]))
+
+
+def difference(found: bytes, wanted: bytes) -> object:
+    """What is around the first byte that differs."""
+    at = next((at for at, (one, other) in enumerate(zip(found, wanted)) if one != other), min(len(found), len(wanted)))
+    return at, found[max(at - 100, 0) : at + 100], wanted[max(at - 100, 0) : at + 100]
+
+
+# ---- the comparisons
+
+
+def random_queries(world: World, count: int) -> None:
+    """Random queries, twice each, and once more after all."""
+    proxy = world.proxy()
+    maker = Maker(random.Random(7), world.data.begin)
+    counts: collections.Counter[str] = collections.Counter()
+    queries: list[Asked] = []
+    while len(queries) < count:
+        asked = maker.asked()
+        queries.append(asked)
+        for name in ("first", "second"):
+            world.same(name, proxy, asked, counts)
+    for asked in queries:
+        world.same("third", proxy, asked, counts)
+    told = counts_of(proxy)
+    results = {name.split('"')[1]: number for name, number in told.items() if name.startswith("promql_proxy_cache_queries_total")}
+    parts = {name.split('"')[1]: number for name, number in told.items() if name.startswith("promql_proxy_cache_parts_total")}
+    print(", ".join(f"{key} {value}" for key, value in counts.items()))
+    print(f"queries {results}, parts {parts}")
+    check("there are hits", parts.get("hit", 0) > count and results.get("hit", 0) > 0, told)
+
+
+def main() -> int:
+    """Runs all comparisons."""
+    parser = argparse.ArgumentParser(description=__doc__)
+    parser.add_argument("program")
+    parser.add_argument("--count", type=int, default=1000, help="how many queries are made at random (%(default)s)")
+    arguments = parser.parse_args()
+    with contextlib.ExitStack() as stack:
+        world = World(arguments.program, stack)
+        random_queries(world, arguments.count)
+    return checks.end()
+
+
+if __name__ == "__main__":
+    sys.exit(main())
