@@ -18,6 +18,7 @@ import argparse
 import collections
 import contextlib
 import datetime
+import json
 import random
 import re
 import shutil
@@ -35,7 +36,7 @@ from pathlib import Path
 from typing import Any, NamedTuple
 
 import promql
-from proxy_client import Proxy, check, checks, free_port, get, request_text, send
+from proxy_client import Proxy, check, checks, free_port, request_text, send
 
 import compare as meaning  # type: ignore[import]
 
@@ -168,6 +169,10 @@ class Maker(meaning.Maker):  # type: ignore[misc]
         super().__init__(rng)
         self.begin = begin
 
+    def matcher(self) -> str:
+        """A matcher, most of which select something."""
+        return str(self.rng.choice(('job="api"', 'job!="web"', 'instance="i1"', 'instance=~"i.*"', 'job=~"web|d<.*"', super().matcher())))
+
     def times(self) -> str:
         """Modifiers of a selector."""
         moment = f" @ {self.begin + self.rng.randrange(-1000, STEP * SAMPLES + 600_000) / 1.0:.3f}"
@@ -213,7 +218,7 @@ class Client(threading.local):
 
     def ask(self, port: int, parameters: Mapping[str, str], headers: Mapping[str, str] | None = None, path: str = RANGE) -> tuple[int, bytes]:
         """The status and the body of an answer."""
-        target = f"{path}?{urllib.parse.urlencode(parameters)}"
+        target = f"{path}?{urllib.parse.urlencode(parameters)}" if parameters else path
         for _ in range(2):
             connection = self.connections.setdefault(port, HTTPConnection("127.0.0.1", port, timeout=60))
             try:
@@ -312,12 +317,14 @@ def difference(found: bytes, wanted: bytes) -> object:
 
 def random_queries(world: World, count: int) -> None:
     """Random queries, twice each, and once more after all."""
-    proxy = world.proxy()
-    maker = Maker(random.Random(7), world.data.begin)
+    proxy, rng = world.proxy(), random.Random(7)
+    maker = Maker(rng, world.data.begin)
     counts: collections.Counter[str] = collections.Counter()
     queries: list[Asked] = []
     while len(queries) < count:
         asked = maker.asked()
+        if client.ask(world.server.port, asked.parameters('tenant="a"'))[0] != 200 and rng.random() < 0.95:
+            continue
         queries.append(asked)
         for name in ("first", "second"):
             world.same(name, proxy, asked, counts)
@@ -329,6 +336,227 @@ def random_queries(world: World, count: int) -> None:
     print(", ".join(f"{key} {value}" for key, value in counts.items()))
     print(f"queries {results}, parts {parts}")
     check("there are hits", parts.get("hit", 0) > count and results.get("hit", 0) > 0, told)
+    metrics_are_read(proxy)
+
+
+# Queries that always have a result, over a whole number of parts and the last times, which are not final.
+PLAIN = ("sum by (job) (rate(http_requests_total[5m]))", "memory_bytes", "avg_over_time(up[10m:1m])", "histogram_quantile(0.9, request_seconds_bucket)")
+
+
+def plain(world: World, query: str, hours: int = 6, ago: int = 3600) -> Asked:
+    """A query over some hours, up to some time ago."""
+    end = int(time.time()) // 60 * 60 - ago
+    return Asked(query, str(end - 3600 * hours), str(end), "60")
+
+
+def many_clients(world: World) -> None:
+    """Many clients at once: each part is asked for once, and each client gets the same."""
+    proxy = world.proxy("-cache-parallel", "4")
+    asked = [plain(world, it, 12) for it in PLAIN]
+    wanted = [client.ask(world.server.port, it.parameters('tenant="a"')) for it in asked]
+    before = counts_of(proxy)
+    failed: list[object] = []
+
+    def ask(number: int) -> None:
+        for turn in range(len(asked)):
+            at = (number + turn) % len(asked)
+            found = client.ask(proxy.port, asked[at].parameters(), AS_A)
+            if found != wanted[at]:
+                failed.append((asked[at], found[0], difference(found[1], wanted[at][1])))
+
+    threads = [threading.Thread(target=ask, args=(number,)) for number in range(64)]
+    for it in threads:
+        it.start()
+    for it in threads:
+        it.join()
+    told = counts_of(proxy)
+    upstream = asked_upstream(told) - asked_upstream(before)
+    check("many clients get the same", not failed, failed[:1])
+    missed, others = parts_of(told, "miss"), parts_of(told, "hit", "shared")
+    print(f"64 clients with {len(asked)} queries: {upstream} parts of the server, {others} of the cache or of another's question")
+    check("each part is asked for once", upstream == missed and 12 * len(asked) <= missed <= 13 * len(asked), told)
+    check("all others come of the cache", missed + others == 64 * missed, told)
+
+
+class Flaky(BaseHTTPRequestHandler):
+    """Passes requests on to the server, and fails in the middle of some answers, in one way after the other."""
+
+    port = 0
+    ways: list[str] = []
+    rng = random.Random(5)
+
+    def do_GET(self) -> None:
+        """Answers, or fails."""
+        status, body = client.ask(self.port, {}, path=self.path)
+        way = self.rng.choice(self.ways) if self.ways and "query_range" in self.path else ""
+        cut = self.rng.randrange(len(body)) if body else 0
+        if way == "status":
+            status, body = 503, b'{"status":"error","errorType":"unavailable","error":"down"}'
+        self.send_response(status)
+        self.send_header("Content-Type", "application/json")
+        self.send_header("Connection", "close")
+        # Without a length the end of the connection is that of the answer: only its text says that it is half of one.
+        if way != "no length":
+            self.send_header("Content-Length", str(len(body)))
+        self.end_headers()
+        with contextlib.suppress(OSError):
+            self.wfile.write(body[:cut] if way in ("length", "no length") else body)
+
+    def log_message(self, *_: object) -> None:
+        """Says nothing."""
+
+
+def failing_server(world: World) -> None:
+    """While a server fails in the middle of answers, and after that, no half of one is in an answer."""
+    Flaky.port = world.server.port
+    proxy = world.proxy(port=served(Flaky, world.stack))
+    asked = [plain(world, query, hours) for query in PLAIN for hours in range(1, 9)]
+    wanted = [client.ask(world.server.port, it.parameters('tenant="a"')) for it in asked]
+    Flaky.ways = ["", "", "", "", "status", "length", "no length"]
+    statuses: collections.Counter[int] = collections.Counter()
+    for _ in range(4):
+        for it, answer in zip(asked, wanted):
+            try:
+                found = client.ask(proxy.port, it.parameters(), AS_A)
+            except (OSError, HTTPException):
+                found = 0, b""
+            statuses[found[0]] += 1
+            # (what goes through as it is may be cut off on its way, as without a cache)
+            is_so = found == answer or found[0] in (0, 502, 503) or not is_json(found[1])
+            check("an answer while the server fails", is_so, (it, found[0], difference(found[1], answer[1])))
+    Flaky.ways = []
+    before = counts_of(proxy)
+    for it, answer in zip(asked, wanted):
+        found = client.ask(proxy.port, it.parameters(), AS_A)
+        check("an answer after the server failed", found == answer, (it, found[0], difference(found[1], answer[1])))
+    hits = parts_of(counts_of(proxy), "hit") - parts_of(before, "hit")
+    print(f"a server that fails: statuses {dict(statuses)}, then {hits} hits")
+    check("something failed, and something was kept", statuses[502] + statuses[503] > 5 and statuses[200] > 5 and hits > 20, statuses)
+
+
+def is_json(text: bytes) -> bool:
+    """Whether a text is JSON."""
+    try:
+        json.loads(text)
+    except ValueError:
+        return False
+    return True
+
+
+def tenants(world: World) -> None:
+    """Two tenants ask the same, in turns: each gets its own, from the cache, too."""
+    proxy = world.proxy("-set-header", "X-Scope-OrgID: {tenant}", "-shared-metric", "up")
+    lists = world.proxy("-tenant-list")
+    hostile = ('memory_bytes{tenant="b"}', 'memory_bytes or {tenant="b"}', '{__name__=~"mem.*",tenant=~"a|b"}', "sum by (tenant) (memory_bytes)")
+    for _ in range(3):
+        for query in (*PLAIN, *hostile):
+            asked = plain(world, query, 3)
+            for tenant in TENANTS:
+                found = client.ask(lists.port, asked.parameters(), {"X-Tenant": tenant})
+                wanted = client.ask(world.server.port, asked.parameters(f'tenant="{tenant}"'))
+                check(f"tenant {tenant}: {query}", found == wanted, difference(found[1], wanted[1]))
+                other = "b" if tenant == "a" else "a"
+                check(f"tenant {tenant}: nothing of {other}", f'"tenant":"{other}"'.encode() not in found[1], found[1])
+                found = client.ask(proxy.port, asked.parameters(), {"X-Tenant": tenant})
+                check(f"tenant {tenant}: {query}, with a header", found == wanted or "up" in query, difference(found[1], wanted[1]))
+            found = client.ask(lists.port, asked.parameters(), {"X-Tenant": "a,b"})
+            wanted = client.ask(world.server.port, asked.parameters('tenant=~"a|b"'))
+            check(f"both tenants: {query}", found == wanted, difference(found[1], wanted[1]))
+    check("tenants have hits", parts_of(counts_of(lists), "hit") > 100, counts_of(lists))
+
+
+# ---- a shared store
+
+
+def memcached(stack: contextlib.ExitStack) -> int:
+    """Starts a memcached, and returns its port."""
+    port = free_port()
+    words = ["memcached", "-l", "127.0.0.1", "-p", str(port), "-U", "0", "-m", "64", "-u", "nobody"]
+    process = subprocess.Popen(words, stdout=subprocess.DEVNULL, stderr=subprocess.DEVNULL)
+    stack.callback(process.wait, 30)
+    stack.callback(process.terminate)
+    for _ in range(100):
+        with contextlib.suppress(OSError), socket.create_connection(("127.0.0.1", port)):
+            return port
+        time.sleep(0.05)
+    raise SystemExit("memcached does not start")
+
+
+class Liar(threading.Thread):
+    """Stands before a memcached, and changes, cuts off, repeats or swaps what it answers."""
+
+    def __init__(self, port: int) -> None:
+        super().__init__(daemon=True)
+        self.behind, self.rng, self.lies = port, random.Random(3), 0
+        self.listener = socket.create_server(("127.0.0.1", 0))
+        self.port = self.listener.getsockname()[1]
+        self.last = b""
+
+    def run(self) -> None:
+        """Takes connections."""
+        while True:
+            connection, _ = self.listener.accept()
+            threading.Thread(target=self.serve, args=(connection,), daemon=True).start()
+
+    def serve(self, client_side: socket.socket) -> None:
+        """Passes one connection on."""
+        with client_side, socket.create_connection(("127.0.0.1", self.behind)) as server_side:
+            threading.Thread(target=self.pump, args=(client_side, server_side), daemon=True).start()
+            with contextlib.suppress(OSError):
+                while text := server_side.recv(1 << 16):
+                    client_side.sendall(self.lie(text))
+
+    @staticmethod
+    def pump(source: socket.socket, target: socket.socket) -> None:
+        """Passes on what a client says."""
+        with contextlib.suppress(OSError):
+            while text := source.recv(1 << 16):
+                target.sendall(text)
+
+    def lie(self, text: bytes) -> bytes:
+        """Something else, mostly."""
+        way = self.rng.randrange(6)
+        self.lies += way < 5
+        at = self.rng.randrange(len(text))
+        said, self.last = self.last or text, text
+        return (text[:at], text[:at] + bytes([text[at] ^ 1]) + text[at + 1 :], text + text, said, text[:at] + b"\r\nEND\r\n", text)[way]
+
+
+def shared_store(world: World) -> None:
+    """What one proxy keeps in a memcached, another one has; and if the store lies or ends, answers stay right."""
+    if shutil.which("memcached") is None:
+        print("not tried: a shared store: there is no memcached here")
+        return
+    with contextlib.ExitStack() as stack:
+        port = memcached(stack)
+        first, second = (world.proxy("-cache-store", f"memcached://127.0.0.1:{port}") for _ in range(2))
+        liar = Liar(port)
+        liar.start()
+        misled = world.proxy("-cache-store", f"memcached://127.0.0.1:{liar.port}")
+        asked = [plain(world, query, hours) for query in PLAIN for hours in (2, 5)]
+        for tenant in TENANTS:
+            for name, proxy in (("first", first), ("second", second), *[("misled", misled)] * 10):
+                for it in asked:
+                    found = client.ask(proxy.port, it.parameters(), {"X-Tenant": tenant})
+                    wanted = client.ask(world.server.port, it.parameters(f'tenant="{tenant}"'))
+                    check(f"shared store, {name}, {tenant}: {it}", found == wanted, difference(found[1], wanted[1]))
+                    if name == "misled":
+                        # (after a failure the store is left alone for a second)
+                        time.sleep(0.01)
+        told = counts_of(second)
+        print(f"a memcached: the second proxy has {parts_of(told, 'hit')} hits and asks for {parts_of(told, 'miss')} parts; {liar.lies} lies")
+        check("the second proxy asks for nothing", parts_of(told, "hit") > 50 and parts_of(told, "miss") == 0, told)
+        check("the store lied", liar.lies > 5 and counts_of(misled)["promql_proxy_cache_store_failures_total"] > 2, counts_of(misled))
+    found = client.ask(first.port, asked[0].parameters(), AS_A)
+    wanted = client.ask(world.server.port, asked[0].parameters('tenant="a"'))
+    check("a store that has ended", found == wanted, difference(found[1], wanted[1]))
+
+
+def metrics_are_read(proxy: Proxy) -> None:
+    """The metrics, as the reader of Prometheus reads them."""
+    text = send(proxy.inside, request_text("GET", "/metrics")).body
+    read = subprocess.run(["promtool", "check", "metrics"], input=text, capture_output=True, check=False)
+    check("the metrics", read.returncode == 0 and b"promql_proxy_cache_bytes" in text, (read.stdout, read.stderr))
 
 
 def main() -> int:
@@ -339,6 +567,10 @@ def main() -> int:
     arguments = parser.parse_args()
     with contextlib.ExitStack() as stack:
         world = World(arguments.program, stack)
+        many_clients(world)
+        failing_server(world)
+        tenants(world)
+        shared_store(world)
         random_queries(world, arguments.count)
     return checks.end()
 

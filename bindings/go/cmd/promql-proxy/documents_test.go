@@ -40,7 +40,7 @@ func firsts(t *testing.T, pattern string) []string {
 
 // The page has each option, with its default, and no other.
 func TestOptionsOfThePage(t *testing.T) {
-	shown := map[string]string{"32768": "32 KiB", "1048576": "1 MiB", "33554432": "32 MiB", "16000": "16,000", "2m0s": "`2m`", "false": "off", "": "none", "0s": "`0`"}
+	shown := map[string]string{"32768": "32 KiB", "1048576": "1 MiB", "33554432": "32 MiB", "16000": "16,000", "268435456": "256 MiB", "2m0s": "`2m`", "10m0s": "`10m`", "24h0m0s": "`24h`", "false": "off", "": "none", "0s": "`0`"}
 	var wanted []string
 	(&options{}).flags(io.Discard).VisitAll(func(it *flag.Flag) {
 		wanted = append(wanted, it.Name)

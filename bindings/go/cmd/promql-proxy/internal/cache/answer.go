@@ -15,7 +15,7 @@ type series struct {
 // matrix is the answer to a range query: its series, in the order of their labels.
 type matrix []series
 
-// readAnswer reads an answer. It is one that is kept if, written again, it is the same text, and if its series are in order.
+// readAnswer reads an answer. The errors are ErrWhole and ErrNotKept. It is one that is kept if, written again, it is the same text, and if its series are in order.
 func readAnswer(text []byte) (matrix, error) {
 	var said struct {
 		Data struct {
@@ -23,7 +23,8 @@ func readAnswer(text []byte) (matrix, error) {
 		}
 	}
 	if err := json.Unmarshal(text, &said); err != nil {
-		return nil, ErrNotKept
+		// It may be half an answer, and whole the next time.
+		return nil, ErrWhole
 	}
 	read := make(matrix, len(said.Data.Result))
 	for i, it := range said.Data.Result {

@@ -86,25 +86,13 @@ func (g *gathering) fail(err error) {
 	})
 }
 
-// fromServer takes a part of the server, or of another who asks for it.
+// fromServer takes a part that was not kept.
 func (g *gathering) fromServer(ctx context.Context, i int) {
 	if ctx.Err() != nil {
 		g.fail(ctx.Err())
 		return
 	}
-	result := Recent
-	answer, err := matrix(nil), error(nil)
-	if i < g.finals {
-		var shared bool
-		if answer, shared, err = g.flights.do(ctx, g.key(g.parts[i]), g.Timeout, g.final(i)); shared {
-			result = Shared
-		} else {
-			result = Miss
-		}
-	} else {
-		answer, err = safely(ctx, func(ctx context.Context) (matrix, error) { return g.part(ctx, i) })
-	}
-	g.Counts.CachePart(result)
+	answer, err := g.answer(ctx, i)
 	if err != nil {
 		g.fail(err)
 		return
@@ -112,20 +100,33 @@ func (g *gathering) fromServer(ctx context.Context, i int) {
 	g.put(i, answer)
 }
 
-// final returns what asks for a part that is final, and keeps it.
-func (g *gathering) final(i int) func(ctx context.Context) (matrix, error) {
-	return func(ctx context.Context) (matrix, error) {
-		key := g.key(g.parts[i])
-		// (another may have asked for it and be done since this one looked)
-		if kept, err := g.get(key); err == nil {
-			return kept, nil
-		}
-		answer, err := g.part(ctx, i)
-		if err == nil {
-			g.set(key, answer, g.Keep)
-		}
-		return answer, err
+// answer returns the answer to a part, of the server or of another who asks for it.
+func (g *gathering) answer(ctx context.Context, i int) (matrix, error) {
+	if i >= g.finals {
+		g.Counts.CachePart(Recent)
+		return safely(ctx, func(ctx context.Context) (matrix, error) { return g.part(ctx, i) })
 	}
+	answer, shared, err := g.flights.do(ctx, g.key(g.parts[i]), g.Timeout, func(ctx context.Context) (matrix, error) { return g.final(ctx, i) })
+	if shared {
+		g.Counts.CachePart(Shared)
+	}
+	return answer, err
+}
+
+// final asks for a part that is final, and keeps it.
+func (g *gathering) final(ctx context.Context, i int) (matrix, error) {
+	key := g.key(g.parts[i])
+	// (another may have asked for it and be done since this one looked)
+	if kept, err := g.get(key); err == nil {
+		g.Counts.CachePart(Hit)
+		return kept, nil
+	}
+	g.Counts.CachePart(Miss)
+	answer, err := g.part(ctx, i)
+	if err == nil {
+		g.set(key, answer, g.Keep)
+	}
+	return answer, err
 }
 
 // part asks for a part.

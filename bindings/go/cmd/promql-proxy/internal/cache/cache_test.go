@@ -276,9 +276,9 @@ func TestErrors(t *testing.T) {
 		if text, err := c.Answer(context.Background(), parameters, nil, s.ask); !errors.Is(err, it.wanted) {
 			t.Errorf("%v: %v %s", it, err, text)
 		}
-		s.all()
-		s.spoil = nil
-		if it.err == nil {
+		// (another part may be asked for still)
+		s = &server{}
+		if strings.Contains(it.text, "warnings") {
 			// Such a query is asked as it is for a while.
 			checkWhole(t, c, s, parameters, 0)
 			checkWhole(t, c, s, asking("a", -3600, -3600), 0)
@@ -392,7 +392,7 @@ func TestManyClients(t *testing.T) {
 		}()
 	}
 	all.Wait()
-	if asked := s.all(); len(asked) != 10 || most > 2 || counted.parts[Hit]+counted.parts[Miss]+counted.parts[Shared] != 1000 {
+	if asked := s.all(); len(asked) != 10 || most > 2 || counted.parts[Miss] != 10 || counted.parts[Hit]+counted.parts[Shared] != 990 {
 		t.Errorf("%d were asked, %d at a time: %v", len(asked), most, counted.parts)
 	}
 }
