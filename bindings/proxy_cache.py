@@ -1,7 +1,7 @@
 #!/usr/bin/env python3
 """Holds the cache of promql-proxy against a real Prometheus whose data grows meanwhile (docs/guide/cache.md).
 
-usage: bindings/proxy_cache.py PROXY [--count 1000]        by a Python that finds the package promql, with Debian's prometheus and promtool
+usage: bindings/proxy_cache.py PROXY [--count 1000 | --measure]        by a Python that finds the package promql, with Debian's prometheus and promtool
 
 Starts a server on 127.0.0.1 with a day of samples of two tenants, which scrapes more of them each second, and the program PROXY before it:
 
@@ -19,6 +19,7 @@ import collections
 import contextlib
 import datetime
 import json
+import os
 import random
 import re
 import shutil
@@ -29,7 +30,7 @@ import tempfile
 import threading
 import time
 import urllib.parse
-from collections.abc import Iterator, Mapping, Sequence
+from collections.abc import Iterator, Mapping
 from http.client import HTTPConnection, HTTPException
 from http.server import BaseHTTPRequestHandler, ThreadingHTTPServer
 from pathlib import Path
@@ -559,14 +560,46 @@ def metrics_are_read(proxy: Proxy) -> None:
     check("the metrics", read.returncode == 0 and b"promql_proxy_cache_bytes" in text, (read.stdout, read.stderr))
 
 
+# ---- what it costs
+
+
+def seconds_of(process: Any) -> float:
+    """The seconds of a processor that a process took so far."""
+    words = Path(f"/proc/{process.pid}/stat").read_text().rsplit(")", 1)[1].split()
+    return (int(words[11]) + int(words[12])) / os.sysconf("SC_CLK_TCK")
+
+
+def measure(world: World) -> None:
+    """Prints what a request takes of the processor in the proxy and in the server, where it goes through, is a hit and is a miss."""
+    through = Proxy(world.program, f"http://127.0.0.1:{world.server.port}", "-tenant-header", "X-Tenant")
+    world.stack.callback(world.end, through)
+    proxy = world.proxy()
+    number = 200
+    for query in ("sum(rate(http_requests_total[5m]))", "memory_bytes"):
+        asked = plain(world, query, 20)
+        size = len(client.ask(proxy.port, asked.parameters(), AS_A)[1])
+        # (a name of a label that is not there makes another line of the query)
+        fresh = [asked._replace(query=query.replace("[5m]", f'{{x{it}=""}}[5m]') if "[" in query else f'{query}{{x{it}=""}}') for it in range(number)]
+        for name, at, queries in (("through", through, [asked] * number), ("hit", proxy, [asked] * number), ("miss", proxy, fresh)):
+            begun = seconds_of(at.process), seconds_of(world.server.process)
+            for it in queries:
+                check("an answer", client.ask(at.port, it.parameters(), AS_A)[0] == 200)
+            took = [1000 * (seconds_of(it) - before) / number for it, before in zip((at.process, world.server.process), begun)]
+            print(f"{query}, {size} bytes, {name}: {took[0]:.2f} ms in the proxy, {took[1]:.2f} ms in the server")
+
+
 def main() -> int:
-    """Runs all comparisons."""
+    """Runs all comparisons, or measures."""
     parser = argparse.ArgumentParser(description=__doc__)
     parser.add_argument("program")
     parser.add_argument("--count", type=int, default=1000, help="how many queries are made at random (%(default)s)")
+    parser.add_argument("--measure", action="store_true", help="print what requests cost, and compare nothing")
     arguments = parser.parse_args()
     with contextlib.ExitStack() as stack:
         world = World(arguments.program, stack)
+        if arguments.measure:
+            measure(world)
+            return checks.end()
         many_clients(world)
         failing_server(world)
         tenants(world)

@@ -9,8 +9,8 @@
 #                                accepts, and the places of errors, in two minutes (bench/meaning, bench/places, bench/targets), where
 #                                Debian's package prometheus is installed; --install does not install it, since Debian starts a service
 #                                then
-# bindings/test.sh --proxy       holds the Go proxy against a Prometheus with several tenants, and an Alertmanager, in half a minute, where
-#                                these are installed (docs/guide/proxy.md)
+# bindings/test.sh --proxy       holds the Go proxy against a Prometheus with several tenants, and an Alertmanager, in two minutes, where
+#                                these are installed (docs/guide/proxy.md); and its cache, with a memcached where there is one
 # bindings/test.sh --editor      tries the language server in Neovim, in Emacs, and with the extension for VS Code, in half a minute,
 #                                where nvim, emacs and node are installed (docs/guide/editor.md)
 # bindings/test.sh --arm         runs what dist/ has for ARM under qemu, in ten minutes: the program as bin/test does, and the library from C,
@@ -672,6 +672,7 @@ test_attacks() {
         add 'the proxy in Go' go_tests ./cmd/promql-proxy/...
         try 'requests for the proxy by its fuzzer' in_go . test -run '^$' -fuzz FuzzRequests -fuzztime 20000x ./cmd/promql-proxy/internal/front
         try 'silences for the proxy by its fuzzer' in_go . test -run '^$' -fuzz FuzzSilences -fuzztime 20000x ./cmd/promql-proxy/internal/front
+        try 'entries of the cache by its fuzzer' in_go . test -run '^$' -fuzz FuzzEntries -fuzztime 20000x ./cmd/promql-proxy/internal/cache
     fi
     has python3 'the page, the tools for rule files and the programs' || return
     add 'small stacks for Python' unit_tests "$here/python" test_promql.py -k Stacks
@@ -721,6 +722,7 @@ test_proxy() {
     try 'building the proxy' in_go . build -o "$work/promql-proxy" ./cmd/promql-proxy
     [ -x "$work/promql-proxy" ] || return
     add 'the proxy before a Prometheus' in_python "$here/python" "$here/proxy.py" "$work/promql-proxy"
+    add 'the cache of the proxy before a Prometheus' in_python "$here/python" "$here/proxy_cache.py" "$work/promql-proxy"
 }
 
 # ---- an editor

@@ -105,11 +105,11 @@ func TestProgramsOfTheGuide(t *testing.T) {
 		}
 		programs := regexp.MustCompile("(?s)```go\n(func .*?)```\n").FindAllStringSubmatch(string(text), -1)
 		if len(programs) != 1 {
-			t.Errorf("%s.md has %d programs", page, len(programs))
+			t.Errorf("the page for a %s has %d programs", page, len(programs))
 		}
 		for _, program := range programs {
 			if !strings.Contains(string(source), "\n"+program[1]+"\n") {
-				t.Errorf("%s.md has another program:\n%s", page, program[1])
+				t.Errorf("the page for a %s has another program:\n%s", page, program[1])
 			}
 		}
 	}

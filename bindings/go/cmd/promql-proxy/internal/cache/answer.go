@@ -102,6 +102,7 @@ func (j *joined) add(it series) {
 // write writes the answer as a server does.
 func (a answer) write() []byte {
 	var text bytes.Buffer
+	text.Grow(a.room())
 	text.WriteString(`{"status":"success","data":{"resultType":"matrix","result":[`)
 	for i, it := range a {
 		if i > 0 {
@@ -115,6 +116,21 @@ func (a answer) write() []byte {
 	}
 	text.WriteString(`]}}`)
 	return text.Bytes()
+}
+
+// room is as many bytes as the answer has, or some more.
+func (a answer) room() int {
+	const around = len(`{"status":"success","data":{"resultType":"matrix","result":[{"metric":,"values":[],"histograms":[]},`)
+	room := around
+	for _, it := range a {
+		room += around + len(it.metric)
+		for _, points := range [][][]byte{it.values, it.histograms} {
+			for _, piece := range points {
+				room += len(piece) + 1
+			}
+		}
+	}
+	return room
 }
 
 func writePoints(text *bytes.Buffer, head string, points [][]byte) {

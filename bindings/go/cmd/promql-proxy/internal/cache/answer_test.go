@@ -1,8 +1,8 @@
 package cache
 
 import (
-	"fmt"
 	"math/rand"
+	"strconv"
 	"strings"
 	"testing"
 )
@@ -67,28 +67,27 @@ func TestAnswers(t *testing.T) {
 // madeAnswer returns an answer with the points of these times, of series some of which have gaps.
 func madeAnswer(first, last, step int64) string {
 	var all []string
-	for i, name := range []string{"Zone", "__name__", "a", "job"} {
-		for j, value := range []string{"", "<", "A", "b", "é"} {
-			var values, histograms []string
-			for at := first; at <= last; at += step {
-				switch n := at/step*int64(i+1) + int64(j); {
-				case at/100%int64(j+2) == 1:
-				case (i+j)%3 == 0 && n%5 == 0:
-					histograms = append(histograms, fmt.Sprintf(`[%s,{"count":"%d"}]`, seconds(at), n))
-				default:
-					values = append(values, fmt.Sprintf(`[%s,"%d"]`, seconds(at), n))
-				}
+	for i, labels := range []string{`"A":"z"`, `"__name__":"\u003c"`, `"__name__":"b"`, `"a":"A\""`, `"a":"é"`} {
+		var values, histograms []string
+		for at := first; at <= last; at += step {
+			n := at / step * int64(i+1)
+			switch point := "[" + seconds(at) + `,"` + strconv.FormatInt(n, 10) + `"]`; {
+			case at/100%int64(i+2) == 1:
+			case i == 3 && n%5 == 0:
+				histograms = append(histograms, strings.NewReplacer(`,`, `,{"count":`, `]`, `}]`).Replace(point))
+			default:
+				values = append(values, point)
 			}
-			text := fmt.Sprintf(`{"metric":{"%s":"%s"}`, name, strings.ReplaceAll(value, "<", `\u003c`))
-			if values != nil {
-				text += `,"values":[` + strings.Join(values, ",") + "]"
-			}
-			if histograms != nil {
-				text += `,"histograms":[` + strings.Join(histograms, ",") + "]"
-			}
-			if values != nil || histograms != nil {
-				all = append(all, text+"}")
-			}
+		}
+		text := `{"metric":{` + labels + "}"
+		if values != nil {
+			text += `,"values":[` + strings.Join(values, ",") + "]"
+		}
+		if histograms != nil {
+			text += `,"histograms":[` + strings.Join(histograms, ",") + "]"
+		}
+		if values != nil || histograms != nil {
+			all = append(all, text+"}")
 		}
 	}
 	return head + strings.Join(all, ",") + tail

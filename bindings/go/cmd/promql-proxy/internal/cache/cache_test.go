@@ -427,3 +427,21 @@ func TestFaults(t *testing.T) {
 		}
 	}
 }
+
+// BenchmarkHits answers a query of five series over five days, all of which are kept, by hours.
+func BenchmarkHits(b *testing.B) {
+	c, _ := made()
+	c.MaxAnswer, c.Store = 1<<30, NewMemory(1<<30, &sizes{})
+	s := &server{}
+	parameters := asking("a", -432000, -3600)
+	for i := 0; i < b.N+1; i++ {
+		if i == 1 {
+			b.ResetTimer()
+		}
+		text, err := c.Answer(context.Background(), parameters, nil, s.ask)
+		if err != nil {
+			b.Fatal(err)
+		}
+		b.SetBytes(int64(len(text)))
+	}
+}

@@ -104,7 +104,7 @@ func (e *exchange) carryOut(plan *endpoint.Plan, header http.Header) *failure.Er
 			return err
 		}
 	}
-	if plan.Ranged && e.Cache != nil && e.takesJSON() {
+	if plan.Ranged && e.Cache != nil && e.takesParts() {
 		if is, err := e.inParts(ctx, plan, header); is {
 			return err
 		}

@@ -27,8 +27,11 @@ func (p *partFailed) Error() string {
 	return fmt.Sprintf("a part failed with status %d", p.response.StatusCode)
 }
 
-// takesJSON says whether the client takes JSON, which is all that Prometheus has.
-func (e *exchange) takesJSON() bool {
+// takesParts says whether the client takes an answer of the cache: it is JSON, which is all that Prometheus has, and was kept.
+func (e *exchange) takesParts() bool {
+	if isNotStored(e.request.Header) {
+		return false
+	}
 	accepted := strings.Join(e.request.Header.Values("Accept"), ",")
 	for _, it := range []string{"*/*", "application/*", "application/json"} {
 		if strings.Contains(accepted, it) {
@@ -36,6 +39,11 @@ func (e *exchange) takesJSON() bool {
 		}
 	}
 	return accepted == ""
+}
+
+// isNotStored says whether headers forbid to keep an answer, or to give one that was kept.
+func isNotStored(header http.Header) bool {
+	return strings.Contains(strings.Join(header.Values("Cache-Control"), ","), "no-store")
 }
 
 // inParts answers a range query by the cache, or says that it is to be asked as it is.
@@ -71,7 +79,7 @@ func (e *exchange) asker(plan *endpoint.Plan, header http.Header) cache.Ask {
 		counted.Upstream(string(endpoint.Prometheus), response.StatusCode)
 		text, err := upstream.ReadAll(response, most)
 		switch {
-		case errors.Is(err, upstream.ErrTooLarge):
+		case errors.Is(err, upstream.ErrTooLarge) || err == nil && response.StatusCode == http.StatusOK && isNotStored(response.Header):
 			return nil, cache.ErrNotKept
 		case err != nil:
 			return nil, err

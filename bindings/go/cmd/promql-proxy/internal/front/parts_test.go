@@ -71,6 +71,7 @@ func TestParts(t *testing.T) {
 		{request{method: "GET", target: rangeOf("a"), header: http.Header{"Accept": {"text/html, */*;q=0.8"}}}, 0},
 		{request{method: "GET", target: rangeOf("a") + "&stats=all"}, 1},
 		{request{method: "GET", target: rangeOf("a"), header: http.Header{"Accept": {"text/csv"}}}, 1},
+		{request{method: "GET", target: rangeOf("a"), header: http.Header{"Cache-Control": {"no-cache, no-store"}}}, 1},
 	} {
 		response, body := s.do(t, it.request)
 		if response.StatusCode != 200 || body != wanted || response.Header.Get("Content-Type") != "application/json" {
@@ -207,6 +208,23 @@ func TestLargeParts(t *testing.T) {
 		if body != matrixOf(`a{tenant="a"}`, 1700000000, 1700005400, 600) || found < asked || asked == 1 && found != 1 {
 			t.Errorf("asked %d times: %d %s", found, response.StatusCode, body)
 		}
+	}
+}
+
+// A server that says so has its answers not kept.
+func TestPartsThatAreNotStored(t *testing.T) {
+	s := serveInParts(t, fixed("a"), func(w http.ResponseWriter, r *http.Request) {
+		w.Header().Set("Cache-Control", "no-store")
+		evaluates(w, r)
+	})
+	for i := 0; i < 2; i++ {
+		s.behind.all()
+		if _, body := s.do(t, request{method: "GET", target: rangeOf("a")}); body != matrixOf(`a{tenant="a"}`, 1700000000, 1700005400, 600) {
+			t.Error(body)
+		}
+	}
+	if asked := s.behind.all(); len(asked) != 1 {
+		t.Errorf("%v", asked)
 	}
 }
 
