@@ -43,15 +43,23 @@ func (p *prometheus) ServeHTTP(w http.ResponseWriter, r *http.Request) {
 	_ = r.ParseForm()
 	p.mutex.Lock()
 	p.asked = append(p.asked, question{r.Method, r.URL.Path, r.Form, r.Header})
+	answer := p.answer
 	p.mutex.Unlock()
-	if p.answer != nil {
-		p.answer(w, r)
+	if answer != nil {
+		answer(w, r)
 		return
 	}
 	w.Header().Set("Content-Type", "application/json")
 	w.Header().Set("Set-Cookie", "user=team-b")
 	w.Header().Set("Vary", "Accept-Encoding")
 	_, _ = io.WriteString(w, success)
+}
+
+// answerBy lets another handler answer from now on.
+func (p *prometheus) answerBy(answer http.HandlerFunc) {
+	p.mutex.Lock()
+	defer p.mutex.Unlock()
+	p.answer = answer
 }
 
 // all returns what was asked since the last call.

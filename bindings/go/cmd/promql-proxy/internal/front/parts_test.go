@@ -175,7 +175,7 @@ func TestPartsThatFail(t *testing.T) {
 		if response.StatusCode != it.gets || !strings.Contains(body, it.text) || it.gets == 503 && response.Header.Get("Retry-After") != "7" {
 			t.Errorf("%v: %d %v %s", it, response.StatusCode, response.Header, body)
 		}
-		s.behind.answer = evaluates
+		s.behind.answerBy(evaluates)
 		if response, body = s.do(t, request{method: "GET", target: rangeOf("a")}); body != matrixOf(`a{tenant="a"}`, 1700000000, 1700005400, 600) {
 			t.Errorf("%v, later: %d %s", it, response.StatusCode, body)
 		}
@@ -192,7 +192,7 @@ func TestPartsThatAreCutOff(t *testing.T) {
 	})
 	response, body := s.do(t, request{method: "GET", target: rangeOf("a")})
 	checkError(t, "cut off", response, body, 502, "unavailable")
-	s.behind.answer = evaluates
+	s.behind.answerBy(evaluates)
 	if _, body := s.do(t, request{method: "GET", target: rangeOf("a")}); body != matrixOf(`a{tenant="a"}`, 1700000000, 1700005400, 600) {
 		t.Error(body)
 	}
