@@ -22,12 +22,8 @@ class Kind:
     """What a field may have: values of these types, as the words say, and in a tuple such items."""
 
     def __init__(
-        self,
-        types: Tuple[type, ...],
-        words: str,
-        read: Optional[Read] = None,
-        write: Optional[Write] = None,
-        item: Optional[Kind] = None,
+        self, types: Tuple[type, ...], words: str, read: Optional[Read] = None, write: Optional[Write] = None,
+        item: Optional[Kind] = None
     ) -> None:
         self.types = types
         self.words = words
@@ -56,9 +52,7 @@ class Kind:
 _TEXT = Kind((str,), "a string", Members.text)
 # By the annotations of fields. The classes of nodes enter theirs.
 KINDS: Dict[str, Kind] = {
-    "str": _TEXT,
-    "bool": Kind((bool,), "True or False", Members.flag),
-    "int": Kind((int,), "a whole number", Members.whole),
+    "str": _TEXT, "bool": Kind((bool,), "True or False", Members.flag), "int": Kind((int,), "a whole number", Members.whole),
     "Optional[str]": Kind((str, NoneType), "a string or None", Members.text_or_none),
     "Optional[int]": Kind((int, NoneType), "a whole number or None", Members.whole_or_none),
     "Tuple[str, ...]": Kind((tuple,), "a tuple of strings", Members.texts, write_list, _TEXT),

@@ -30,9 +30,7 @@ _QUERIES = (
 )
 # The same for the `query` of a variable.
 _VARIABLES = (
-    (None, "list", "templating"),
-    ("query", None, "list", "templating"),
-    ("spec", "query", "spec", None, "variables"),
+    (None, "list", "templating"), ("query", None, "list", "templating"), ("spec", "query", "spec", None, "variables"),
 )
 # What Grafana's data source of Prometheus reads of a variable: the query is in the first parentheses.
 _CALL = re.compile(r"\s*(label_values|label_names|query_result|metrics)\s*\(", re.ASCII)

@@ -120,14 +120,6 @@ class CallForm(TypedDict):
 
 
 Form = Union[
-    AggregationForm,
-    BinaryForm,
-    CallForm,
-    NumberForm,
-    ParenForm,
-    RangeSelectorForm,
-    SelectorForm,
-    StringForm,
-    SubqueryForm,
+    AggregationForm, BinaryForm, CallForm, NumberForm, ParenForm, RangeSelectorForm, SelectorForm, StringForm, SubqueryForm,
     UnaryForm,
 ]

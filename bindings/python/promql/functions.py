@@ -27,10 +27,7 @@ class Function(NamedTuple):
     def to_json(self) -> FunctionForm:
         """Its JSON form."""
         return {
-            "argTypes": list(self.arg_types),
-            "experimental": self.experimental,
-            "name": self.name,
-            "returnType": self.return_type,
+            "argTypes": list(self.arg_types), "experimental": self.experimental, "name": self.name, "returnType": self.return_type,
             "variadic": self.variadic,
         }
 

@@ -218,8 +218,7 @@ def _texts(query: str, uses: Sequence[Tuple[str, str]]) -> Iterator[str]:
         letters = f"{word}{chr(97 + index // 26)}{chr(97 + index % 26)}"
         texts = {
             "word": letters.ljust(len(spelling), "z"),
-            "text": '"' + letters.ljust(len(spelling) - 2, "z") + '"',
-            "string": '"' + letters.ljust(len(spelling) - 2, "z") + '"',
+            **dict.fromkeys(("text", "string"), '"' + letters.ljust(len(spelling) - 2, "z") + '"'),
             "matcher": f'{letters}="{"z" * (len(spelling) - len(letters) - 3)}"',
             "number": f"{number}{100 + index}",
             "duration": f"{length}{100 + index}ms",

@@ -21,16 +21,10 @@ class Kind(NamedTuple):
 
 
 _KINDS = {
-    "aggregation": Kind("aggregation", ("param", "expr")),
-    "unaryExpr": Kind("sign", ("expr",)),
-    "binaryExpr": Kind("operator", ("lhs", "rhs")),
-    "parenExpr": Kind("parentheses", ("expr",)),
-    "subquery": Kind("subquery", ("expr",)),
-    "numberLiteral": Kind("number"),
-    "stringLiteral": Kind("string"),
-    "vectorSelector": Kind("selector"),
-    "matrixSelector": Kind("range selector"),
-    "call": Kind("call", ("args",)),
+    "aggregation": Kind("aggregation", ("param", "expr")), "unaryExpr": Kind("sign", ("expr",)),
+    "binaryExpr": Kind("operator", ("lhs", "rhs")), "parenExpr": Kind("parentheses", ("expr",)), "subquery": Kind("subquery", ("expr",)),
+    "numberLiteral": Kind("number"), "stringLiteral": Kind("string"), "vectorSelector": Kind("selector"),
+    "matrixSelector": Kind("range selector"), "call": Kind("call", ("args",)),
 }
 
 

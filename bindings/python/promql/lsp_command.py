@@ -15,12 +15,8 @@ if TYPE_CHECKING:
 
 def add_parser(subparsers: Any) -> None:
     parser = subparsers.add_parser("lsp", help="serve an editor: diagnostics, layout, completion and more", description=__doc__)
-    parser.add_argument(
-        "--prometheus",
-        type=_prometheus,
-        metavar="URL",
-        help="complete the names of metrics and labels of a Prometheus on this machine, too",
-    )
+    text = "complete the names of metrics and labels of a Prometheus on this machine, too"
+    parser.add_argument("--prometheus", type=_prometheus, metavar="URL", help=text)
     parser.add_argument("--style", choices=STYLES, default="", help="how queries of files are laid out (people, or what settings say)")
     add_target(parser)
     parser.add_argument("--no-lint", action="store_true", help="show no findings of the linter")

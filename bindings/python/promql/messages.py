@@ -188,9 +188,7 @@ def as_sarif(command: str, told: List[Told]) -> str:
     results = [_sarif_result(message, codes.index(message.code)) for message in messages]
     is_done = not any(message.code == FILE for message in messages)
     run = {
-        "tool": {"driver": driver},
-        "invocations": [{"executionSuccessful": is_done}],
-        "columnKind": "unicodeCodePoints",
+        "tool": {"driver": driver}, "invocations": [{"executionSuccessful": is_done}], "columnKind": "unicodeCodePoints",
         "results": results,
     }
     return json.dumps({"$schema": _SCHEMA, "version": "2.1.0", "runs": [run]}, indent=2) + "\n"
@@ -221,10 +219,8 @@ def _sarif_result(message: Message, index: int) -> Json:
         place["region"] = _renamed(message.region, _SARIF_REGION)
     result["locations"] = [{"physicalLocation": place}]
     if message.fix and message.fix["edits"]:
-        replacements = [
-            {"deletedRegion": _renamed(edit, _SARIF_REGION), "insertedContent": {"text": edit["text"]}}
-            for edit in message.fix["edits"]
-        ]
+        edits = [(_renamed(edit, _SARIF_REGION), edit["text"]) for edit in message.fix["edits"]]
+        replacements = [{"deletedRegion": region, "insertedContent": {"text": text}} for region, text in edits]
         result["fixes"] = [{"artifactChanges": [{"artifactLocation": location, "replacements": replacements}]}]
     return result
 

@@ -26,29 +26,9 @@ from ._parts import Cardinality, ManyToOne, Matcher, Matching, OneToMany
 from ._printing import NodeError, tree_of, tree_of_query
 
 __all__ = [
-    "Aggregation",
-    "At",
-    "Binary",
-    "Call",
-    "Cardinality",
-    "Expr",
-    "FormError",
-    "ManyToOne",
-    "Matcher",
-    "Matching",
-    "NodeError",
-    "Number",
-    "OneToMany",
-    "Paren",
-    "RangeSelector",
-    "Selector",
-    "String",
-    "Subquery",
-    "Unary",
-    "from_json",
-    "milliseconds",
-    "parse",
-    "transform",
+    "Aggregation", "At", "Binary", "Call", "Cardinality", "Expr", "FormError", "ManyToOne", "Matcher", "Matching", "NodeError",
+    "Number", "OneToMany", "Paren", "RangeSelector", "Selector", "String", "Subquery", "Unary", "from_json", "milliseconds",
+    "parse", "transform",
 ]
 
 

@@ -20,18 +20,7 @@ from .subject import IsWritten, RuleContext, Subject, always
 from .table import REJECTED, RULES, UNCOMPARED, Rule, Selection, known_codes, unknown_words
 
 __all__ = [
-    "Finding",
-    "Fix",
-    "RULES",
-    "Rule",
-    "RuleContext",
-    "Selection",
-    "Severity",
-    "Span",
-    "TextEdit",
-    "fix",
-    "known_codes",
-    "lint",
+    "Finding", "Fix", "RULES", "Rule", "RuleContext", "Selection", "Severity", "Span", "TextEdit", "fix", "known_codes", "lint",
 ]
 
 # The modules whose functions are the rules of the table.

@@ -71,14 +71,9 @@ class Places:
         heads = spans.get("name") or spans.get("operator") or spans.get("range", [opening]) * (node["type"] == "subquery")
         head = heads[0] if heads else opening
         return NodePlace(
-            whole,
-            head,
-            self._braces(node, first, "name" in spans),
-            tuple(map(self._matcher, spans.get("matcher", ()))),
-            spans["range"][0] if "range" in spans else None,
-            tuple(spans.get("label", ())),
-            tuple(spans.get("groupLabel", ())),
-            self._span(self._numbers[head.start] + 1) if node.get("bool") else None,
+            whole, head, self._braces(node, first, "name" in spans), tuple(map(self._matcher, spans.get("matcher", ()))),
+            spans["range"][0] if "range" in spans else None, tuple(spans.get("label", ())), tuple(spans.get("groupLabel", ())),
+            self._span(self._numbers[head.start] + 1) if node.get("bool") else None
         )
 
     def _span(self, number: int) -> Span:

@@ -291,39 +291,26 @@ def text_edits(document: Document, edits: List[Edit]) -> List[Any]:
 
 
 ABOUT_PLACES: Dict[str, Callable[[Workspace, Any], Any]] = {
-    "textDocument/hover": on_hover,
-    "textDocument/completion": on_completion,
-    "textDocument/signatureHelp": on_signature_help,
-    "textDocument/definition": on_definition,
-    "textDocument/references": on_references,
-    "textDocument/prepareRename": on_prepare_rename,
-    "textDocument/rename": on_rename,
-    "textDocument/selectionRange": on_selection_range,
+    "textDocument/hover": on_hover, "textDocument/completion": on_completion, "textDocument/signatureHelp": on_signature_help,
+    "textDocument/definition": on_definition, "textDocument/references": on_references, "textDocument/prepareRename": on_prepare_rename,
+    "textDocument/rename": on_rename, "textDocument/selectionRange": on_selection_range,
     "textDocument/documentSymbol": lambda workspace, params: outline.symbols(workspace.document(params)),
     "textDocument/foldingRange": lambda workspace, params: outline.folds(workspace.document(params)),
-    "textDocument/documentHighlight": on_document_highlight,
-    "textDocument/codeAction": on_code_action,
-    "codeAction/resolve": on_resolve,
-    "textDocument/semanticTokens/full": on_semantic_tokens,
-    "textDocument/semanticTokens/range": on_semantic_tokens,
+    "textDocument/documentHighlight": on_document_highlight, "textDocument/codeAction": on_code_action, "codeAction/resolve": on_resolve,
+    "textDocument/semanticTokens/full": on_semantic_tokens, "textDocument/semanticTokens/range": on_semantic_tokens,
 }
 # Those that are about all documents.
 ABOUT_ALL = ("textDocument/definition", "textDocument/references", "textDocument/rename")
 
+_PROVIDED = (
+    "hover definition references documentFormatting documentRangeFormatting selectionRange documentSymbol foldingRange documentHighlight"
+).split()
 CAPABILITIES = {
     "textDocumentSync": {"openClose": True, "change": 2},
-    "hoverProvider": True,
+    **{f"{name}Provider": True for name in _PROVIDED},
     "completionProvider": {"triggerCharacters": ["{", ",", "(", '"', "[", "="]},
     "signatureHelpProvider": {"triggerCharacters": ["(", ","]},
-    "definitionProvider": True,
-    "referencesProvider": True,
     "renameProvider": {"prepareProvider": True},
-    "documentFormattingProvider": True,
-    "documentRangeFormattingProvider": True,
-    "selectionRangeProvider": True,
-    "documentSymbolProvider": True,
-    "foldingRangeProvider": True,
-    "documentHighlightProvider": True,
     "codeActionProvider": {"codeActionKinds": [_QUICK_FIX, _FIX_ALL], "resolveProvider": True},
     "semanticTokensProvider": {"legend": {"tokenTypes": TYPES, "tokenModifiers": []}, "full": True, "range": True},
 }

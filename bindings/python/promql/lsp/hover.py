@@ -14,14 +14,8 @@ from .names import Selector, plain, selectors_of
 
 _SAYINGS = {"=": "is", "!=": "is not", "=~": "matches", "!~": "does not match"}
 # The types of what has one whatever is in it.
-_TYPES = {
-    "aggregation": "vector",
-    "vectorSelector": "vector",
-    "matrixSelector": "matrix",
-    "subquery": "matrix",
-    "numberLiteral": "scalar",
-    "stringLiteral": "string",
-}
+_TYPES = {**dict.fromkeys(("aggregation", "vectorSelector"), "vector"), **dict.fromkeys(("matrixSelector", "subquery"), "matrix")}
+_TYPES.update(numberLiteral="scalar", stringLiteral="string")
 
 
 class Hover(NamedTuple):

@@ -163,9 +163,7 @@ class Server:
     def _take(self, method: str, params: Any) -> None:
         """Does what a notification says. There is nobody to tell where it cannot be done."""
         handlers: Dict[str, Callable[[Any], None]] = {
-            "textDocument/didOpen": self._open,
-            "textDocument/didChange": self._change,
-            "textDocument/didClose": self._close,
+            "textDocument/didOpen": self._open, "textDocument/didChange": self._change, "textDocument/didClose": self._close,
             "$/cancelRequest": self._cancel,
         }
         handler = handlers.get(method)
