@@ -4,6 +4,8 @@ from __future__ import annotations
 
 import argparse
 import os
+import pickle
+import signal
 import sys
 from functools import partial
 from itertools import chain
@@ -121,12 +123,8 @@ def _guarded(work: Work, target: Target) -> Report:
 
 
 def work_on(
-    targets: List[Target],
-    work: ConfiguredWork,
-    arguments: argparse.Namespace,
-    goes_on: bool = False,
-    needs_queries: bool = True,
-    at_end: Optional[AtEnd] = None,
+    targets: List[Target], work: ConfiguredWork, arguments: argparse.Namespace, goes_on: bool = False, needs_queries: bool = True,
+    at_end: Optional[AtEnd] = None
 ) -> Status:
     """Puts out what is said of each file and then of all together, and returns the status that counts. It can go on where the output
     cannot be written."""
@@ -207,25 +205,40 @@ def reports_of(targets: List[Target], work: Work, jobs: Optional[int]) -> Iterat
 
 def _in_processes(targets: List[Target], work: Work, jobs: int) -> Iterator[Report]:
     """The reports of processes that take turns with the files, so that none is far ahead of what is put out."""
-    import multiprocessing
-    context = multiprocessing.get_context("fork")
     readers: List[Any] = []
-    for number in range(jobs):
-        reader, writer = context.Pipe(duplex=False)
-        readers.append(reader)
-        context.Process(target=_send, args=(targets[number::jobs], work, writer, list(readers)), daemon=True).start()
-        writer.close()
-    for number, target in enumerate(targets):
-        try:
-            report: Report = readers[number % jobs].recv()
-        except (EOFError, OSError):
-            report = Report(Status.FAILED, b"", [of_file(target.name, "the process that had this file ended")])
-        yield report
+    children: List[int] = []
+    try:
+        for number in range(jobs):
+            reader, writer = os.pipe()
+            readers.append(open(reader, "rb"))
+            children.append(_forked(targets[number::jobs], work, writer, readers))
+            os.close(writer)
+        for number, target in enumerate(targets):
+            try:
+                report: Report = pickle.load(readers[number % jobs])
+            except (EOFError, OSError, pickle.UnpicklingError):
+                report = Report(Status.FAILED, b"", [of_file(target.name, "the process that had this file ended")])
+            yield report
+    finally:
+        for file, child in zip(readers, children):
+            file.close()
+            os.kill(child, signal.SIGTERM)
+            os.waitpid(child, 0)
 
 
-def _send(targets: List[Target], work: Work, writer: Any, readers: List[Any]) -> None:
-    """What a process does: where nobody reads its reports any more, it ends by SIGPIPE."""
-    for reader in readers:
-        reader.close()
-    for target in targets:
-        writer.send(work(target))
+def _forked(targets: List[Target], work: Work, writer: int, readers: List[Any]) -> int:
+    """Begins a process that sends its reports, and ends where nobody reads them any more. (Importing `multiprocessing` takes as long as
+    checking a hundred files.)"""
+    sys.stdout.flush()
+    child = os.fork()
+    if child:
+        return child
+    try:
+        for reader in readers:
+            reader.close()
+        with open(writer, "wb") as file:
+            for target in targets:
+                pickle.dump(work(target), file)
+                file.flush()
+    finally:
+        os._exit(0)

@@ -30,6 +30,9 @@ _SECTION = re.compile(r"^[^\S\n]*\[\s*tool\s*(?:\]|\.\s*[\"']?promql\b)", re.M)
 # The limits of a query without settings.
 _UNSET = limits()
 Table = Dict[str, Any]
+Steps = Tuple[Tuple[bool, str], ...]
+# The options of a run as they are completed, by the file of settings and its steps, with the limits of a query.
+_COMPLETED: Dict[Tuple[str, Steps], Tuple[argparse.Namespace, Dict[str, int]]] = {}
 
 
 def _is_list(kind: type) -> Callable[[Any], bool]:
@@ -49,13 +52,8 @@ _TEXTS, _NUMBER = (_is_list(str), "a list of texts"), (_is_number, f"a number fr
 _CODES = {"select": _TEXTS, "ignore": _TEXTS, "add": _TEXTS}
 _KEYS: Dict[str, Dict[str, Tuple[Callable[[Any], bool], str]]] = {
     "": {
-        **_CODES,
-        "exclude": _TEXTS,
-        "fail-on": _one_of(SEVERITIES),
-        "strict": (lambda value: isinstance(value, bool), "true or false"),
-        "width": _NUMBER,
-        "style": _one_of(STYLES),
-        "limits": (lambda value: isinstance(value, dict), "a table"),
+        **_CODES, "exclude": _TEXTS, "fail-on": _one_of(SEVERITIES), "strict": (lambda value: isinstance(value, bool), "true or false"),
+        "width": _NUMBER, "style": _one_of(STYLES), "limits": (lambda value: isinstance(value, dict), "a table"),
         "paths": (_is_list(dict), "a list of tables"),
     },
     "limits": {name.replace("_", "-"): _NUMBER for name in (*limits(), *FileBounds._fields)},
@@ -72,7 +70,7 @@ class TeamSettings(NamedTuple):
     def is_left_out(self, name: str) -> bool:
         return self._matches(name, self.table.get("exclude", ()))
 
-    def steps(self, name: str) -> Tuple[Tuple[bool, str], ...]:
+    def steps(self, name: str) -> Steps:
         """Which codes of the linter are looked for in a file, and which are not: the last step that means a code counts."""
         found: List[Tuple[bool, str]] = []
         tables = [it for it in self.table.get("paths", ()) if self._matches(name, it.get("files", ()))]
@@ -95,7 +93,17 @@ def with_settings(arguments: argparse.Namespace, target: Target) -> Tuple[argpar
     """The options as the settings for a file complete them. Sets the limits of a query, too."""
     is_file = target.query is None and target.name != "-"
     settings = _read(arguments.config) if arguments.config is not None else _found(_folder_of(target.name) if is_file else os.getcwd())
-    table = settings.table
+    steps = () if getattr(arguments, "select", ()) else settings.steps(target.name)
+    key = settings.file, steps
+    if key not in _COMPLETED:
+        _COMPLETED[key] = _completed(arguments, settings.table, steps)
+    merged, bounds = _COMPLETED[key]
+    _limit(bounds)
+    return merged, settings
+
+
+def _completed(arguments: argparse.Namespace, table: Table, steps: Steps) -> Tuple[argparse.Namespace, Dict[str, int]]:
+    """The options as settings complete them, and the limits of a query."""
     merged = argparse.Namespace(**vars(arguments))
     bounds = {key.replace("-", "_"): value for key, value in table.get("limits", {}).items()}
     bounds.update({name: vars(arguments)[name] for name in _UNSET if vars(arguments).get(name) is not None})
@@ -108,12 +116,10 @@ def with_settings(arguments: argparse.Namespace, target: Target) -> Tuple[argpar
     for name, value in defaults.items():
         if getattr(merged, name, None) is None:
             setattr(merged, name, value)
-    merged.strict = arguments.strict or table.get("strict", False)
-    merged.steps = () if getattr(arguments, "select", ()) else settings.steps(target.name)
+    merged.strict, merged.steps = arguments.strict or table.get("strict", False), steps
     if not getattr(arguments, "select", ()):
         merged.select = [tuple(table["select"])] if table.get("select") else []
-    _limit(bounds)
-    return merged, settings
+    return merged, bounds
 
 
 def settings_of(name: str) -> TeamSettings:
@@ -130,6 +136,7 @@ def _folder_of(name: str) -> str:
 @contextmanager
 def settings_read_anew() -> Iterator[None]:
     """Reads the files of settings anew meanwhile, and leaves the limits of a query as they were before."""
+    _COMPLETED.clear()
     _found.cache_clear()
     _read.cache_clear()
     before = limits()
@@ -142,9 +149,9 @@ def settings_read_anew() -> Iterator[None]:
 
 def _limit(bounds: Dict[str, int]) -> None:
     """Sets limits of a query; those that are not said are as they were before all settings."""
-    before = limits()
-    set_limits(**{**_UNSET, **bounds})
-    if limits() != before:
+    wanted = {**_UNSET, **bounds}
+    if wanted != limits():
+        set_limits(**wanted)
         VERDICTS.forget()
 
 
