@@ -13,6 +13,7 @@ from .files import Fault, counted
 from .jobs import Report, add_arguments, as_bytes, bounds_of, work_on
 from .messages import ERROR, REJECTED, RULE, WARNING, Message, in_order, left_out, listed, placed, skipped_queries
 from .options import add_server_arguments, whole_number
+from .quick_rules import RulesInOrder
 from .terminal import visible
 
 # The module that asks a server, which needs the linter.
@@ -22,14 +23,8 @@ _LIVE = "promql.live_checks"
 def add_parser(subparsers: Any) -> None:
     parser = subparsers.add_parser("check", help="check the queries of rule files and dashboards", description=__doc__)
     add_arguments(parser)
-    parser.add_argument(
-        "--variable",
-        action="append",
-        default=[],
-        type=_variable,
-        metavar="NAME=VALUE",
-        help="put VALUE in the place of a variable of dashboards, such as __rate_interval=5m",
-    )
+    text = "put VALUE in the place of a variable of dashboards, such as __rate_interval=5m"
+    parser.add_argument("--variable", action="append", default=[], type=_variable, metavar="NAME=VALUE", help=text)
     parser.add_argument("--queries", action="store_true", help="check queries alone, and not names, labels, durations and templates")
     add_server_arguments(parser, "that is asked what the queries select there now")
     parser.add_argument("--max-series", type=whole_number, metavar="N", help="warn of a query that reads more series there")
@@ -62,7 +57,9 @@ def rejections(document: Document, others: Sequence[Fault] = ()) -> Tuple[int, L
 
 
 def _check_file(arguments: argparse.Namespace, target: Target) -> Report:
-    document = read_document(target, arguments.dashboard, dict(arguments.variable), bounds_of(arguments))
+    document = read_document(target, arguments.dashboard, dict(arguments.variable), bounds_of(arguments), not arguments.prometheus)
+    if isinstance(document, RulesInOrder):
+        return Report(Status.FINE, as_bytes(f"{visible(document.source.name)}: {document.summary()}, no errors\n"), [], document.rule_count)
     others, warnings = ([], []) if arguments.queries else document.checks()
     source = document.source
     count, said = rejections(document, others)

@@ -174,6 +174,10 @@ class QueryChecker:
             self._size += size
         return True
 
+    def accepts(self, text: str) -> bool:
+        """Whether a text is looked at and accepted, by the target, too."""
+        return self.admits(text) and _verdict(text) is None
+
     def tries(self, text: str, variables: int) -> bool:
         """Whether a text is to be read to try what its variables may be, as long as what is tried in the file is not too much."""
         self._tried += len(text) + _VARIABLE * variables

@@ -4,6 +4,7 @@ from __future__ import annotations
 
 import os
 import re
+from contextlib import suppress
 from enum import IntEnum
 from importlib import import_module
 from typing import TYPE_CHECKING, FrozenSet, Iterable, Iterator, List, Mapping, NamedTuple, Optional, Sequence, Union
@@ -13,6 +14,8 @@ from .checked_queries import Document, FileBounds, QueryChecker
 from .exact_yaml import NoReaderError
 from .files import BoundError, FileError, Source, nested_too_deeply, read_source
 from .queries import Query
+from .quick_rules import RulesInOrder
+from .quick_yaml import Unclear
 from .rule_documents import Kind
 from .rule_files import BOARDS, RuleFile
 
@@ -43,6 +46,8 @@ class Target(NamedTuple):
         return self.name.endswith(_RULES)
 
 
+# The texts in the places of variables of dashboards.
+Variables = Optional[Mapping[str, str]]
 _RULES = (".rules", ".rule")
 _READ = (".yml", ".yaml", *_RULES, ".json")
 # What a file is made of by another program, which is to be run before.
@@ -127,9 +132,10 @@ class Skipped(Exception):
 
 
 def read_document(
-    target: Target, is_dashboard: bool, variables: Optional[Mapping[str, str]] = None, bounds: FileBounds = FileBounds()
+    target: Target, is_dashboard: bool, variables: Variables = None, bounds: FileBounds = FileBounds(), is_quick: bool = False
 ) -> Document:
-    """Reads a file within these bounds, which is a dashboard where its name ends with .json, too.
+    """Reads a file within these bounds, which is a dashboard where its name ends with .json, too. Of rules in order, only their number is
+    found where that is to be quick.
 
     A file that was found in a folder, and is something else, raises Skipped. One that is not YAML is that where no line of it begins with
     `groups:`, as in rules, and one that is not JSON where it has no `expr`.
@@ -139,7 +145,7 @@ def read_document(
     if target.left:
         raise Skipped(target.left, True)
     try:
-        document = _read(target, is_dashboard, variables, QueryChecker(bounds))
+        document = _read(target, is_dashboard, variables, QueryChecker(bounds), is_quick)
     except BoundError as error:
         text = error.source.text if error.source else ""
         if target.is_found and not _QUERY_KEY.search(text) and not _ESCAPE.search(text):
@@ -157,12 +163,15 @@ def read_document(
     return document
 
 
-def _read(target: Target, is_dashboard: bool, variables: Optional[Mapping[str, str]], checker: QueryChecker) -> Optional[Document]:
+def _read(target: Target, is_dashboard: bool, variables: Variables, checker: QueryChecker, is_quick: bool) -> Optional[Document]:
     """The document of a file; nothing for a file of a folder that surely is none."""
     source = read_source(target.name)
     try:
         if target.is_found and (is_dashboard or target.is_json) and not import_module(BOARDS).may_have_queries(source.text):
             return None
+        if is_quick and not is_dashboard and not target.is_json:
+            with suppress(Unclear):
+                return RulesInOrder(source, QueryChecker(checker.bounds))
         return document_of(source, is_dashboard, target.is_json, variables, checker)
     except BoundError:
         raise
@@ -173,7 +182,7 @@ def _read(target: Target, is_dashboard: bool, variables: Optional[Mapping[str, s
 
 
 def document_of(
-    source: Source, is_dashboard: bool, is_json: bool, variables: Optional[Mapping[str, str]], checker: QueryChecker
+    source: Source, is_dashboard: bool, is_json: bool, variables: Variables, checker: QueryChecker
 ) -> Union[Dashboard, RuleFile]:
     """The document that a text is."""
     if not is_dashboard and not is_json:

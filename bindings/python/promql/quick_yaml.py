@@ -18,10 +18,8 @@ from .scalars import Node, Token
 
 # What libyaml, which reads YAML 1.1, may take otherwise: the line ends of Unicode, and what is not printed; directives, ends of documents,
 # and a comment at once after the sign of a block.
-_UNUSUAL = re.compile(
-    "[^\t\n\r -~\xa0-\u2027\u202a-\ud7ff\ue000-\ufefe\uff00-\ufffd\U00010000-\U0010ffff]" r"|(?:^|\r)(?:%|\.\.\.)|[|>][-+0-9]*#",
-    re.M,
-)
+_UNUSUAL = re.compile("[\0-\b\v\f\x0e-\x1f\x7f-\x9f\u2028\u2029\ud800-\udfff\ufeff\ufffe\uffff]" r"|(?:^|\r)(?:%|\.\.\.)|[|>][-+0-9]*#", re.M)
+_BLOCK_COMMENT = re.compile("[-+0-9|>]#")
 # Where a text may begin with a directive: it says what is so without it.
 _DIRECTIVE = re.compile(r"%YAML 1\.2 *(?:\n|\r\n?)(?=--- *[\n\r])")
 # Tags with a meaning for these tools, by which both readers call a value. Most have no effect.
@@ -44,16 +42,10 @@ class QuickYaml:
     """A text as libyaml reads it, where nothing in it is unusual."""
 
     def __init__(self, source: Source, most_nodes: int = FileBounds().max_file_nodes) -> None:
-        loader = _loader()
-        if not loader:
-            raise Unclear(0, "")
-        directive = _DIRECTIVE.match(source.text)
-        unusual = _UNUSUAL.search(source.text, directive.end() if directive else 0)
-        if unusual:
-            raise Unclear(unusual.start())
+        reader = reader_of(source.text)
         self._text = source.text
         composer = _Composer(source, most_nodes)
-        self.roots = composer.documents(loader)
+        self.roots = composer.documents(reader)
         self.has_aliases = composer.has_aliases
         self.nodes_left = composer.nodes_left
         if "\t" in source.text and not _are_clear_tabs(source.text, composer.scalars):
@@ -82,6 +74,25 @@ class QuickYaml:
 
 
 quick_yaml = lru_cache(maxsize=1)(QuickYaml)
+
+
+def reader_of(text: str) -> Any:
+    """The reader of PyYAML that calls libyaml, for a text in which nothing is unusual."""
+    loader = _loader()
+    if not loader:
+        raise Unclear(0, "")
+    if not _is_usual(text):
+        directive = _DIRECTIVE.match(text)
+        unusual = _UNUSUAL.search(text, directive.end() if directive else 0)
+        if unusual:
+            raise Unclear(unusual.start())
+    return loader(text)
+
+
+def _is_usual(text: str) -> bool:
+    """Whether a text surely has nothing unusual, which is seen sooner of most than what is there."""
+    begins_lines = text.startswith(("%", "...")) or "\n%" in text or "\n..." in text
+    return not begins_lines and text.replace("\n", "").isprintable() and ("#" not in text or not _BLOCK_COMMENT.search(text))
 
 
 @lru_cache(maxsize=None)
@@ -153,18 +164,12 @@ class _Composer:
         self.has_aliases = False
         self.scalars: List[_Span] = []
 
-    def documents(self, loader: Any) -> List[Node]:
+    def documents(self, reader: Any) -> List[Node]:
         yaml: Any = importlib.import_module("yaml")
-        steps: Dict[Any, Any] = {
-            yaml.ScalarEvent: self._add_scalar,
-            yaml.MappingStartEvent: self._begin,
-            yaml.SequenceStartEvent: self._begin,
-            yaml.MappingEndEvent: self._end,
-            yaml.SequenceEndEvent: self._end,
-            yaml.AliasEvent: self._add_alias,
-            yaml.DocumentStartEvent: lambda event: self._anchors.clear(),
-        }
-        reader = loader(self._text)
+        steps: Dict[Any, Any] = dict.fromkeys((yaml.MappingStartEvent, yaml.SequenceStartEvent), self._begin)
+        steps.update(dict.fromkeys((yaml.MappingEndEvent, yaml.SequenceEndEvent), self._end))
+        steps.update({yaml.ScalarEvent: self._add_scalar, yaml.AliasEvent: self._add_alias})
+        steps[yaml.DocumentStartEvent] = lambda event: self._anchors.clear()
         try:
             while event := reader.get_event():
                 step = steps.get(type(event))

@@ -31,11 +31,13 @@ _OBJECT_FIELDS = {
 # The keys about which the reader of rules complains itself where they are there twice.
 LOOKED_AT = ("groups", "rules", "expr")
 
-_LABEL = re.compile(r"[a-zA-Z_][a-zA-Z0-9_]*")
-_METRIC = re.compile(r"[a-zA-Z_:][a-zA-Z0-9_:]*")
-_SURROGATE = re.compile("[\ud800-\udfff]")
+LABEL = re.compile(r"[a-zA-Z_][a-zA-Z0-9_]*")
+METRIC = re.compile(r"[a-zA-Z_:][a-zA-Z0-9_:]*")
+SURROGATE = re.compile("[\ud800-\udfff]")
 DURATION = re.compile(r"(?:(\d+)y)?(?:(\d+)w)?(?:(\d+)d)?(?:(\d+)h)?(?:(\d+)m)?(?:(\d+)s)?(?:(\d+)ms)?", re.ASCII)
 MILLISECONDS = (31_536_000_000, 604_800_000, 86_400_000, 3_600_000, 60_000, 1_000, 1)
+# Durations of most rules.
+_USUAL = frozenset(f"{number}{unit}" for number in range(1, 61) for unit in "smhd")
 # In nanoseconds.
 _LONGEST = 2**63 - 1
 _MOST_DIGITS = 18
@@ -45,7 +47,7 @@ _NUMBER = re.compile(
 _LARGEST = 2**63 - 1
 
 # The most characters in the braces of templates that are looked at in a file, but for plain values.
-_MOST_IN_TEMPLATES = 100_000
+MOST_IN_TEMPLATES = 100_000
 
 # The name of a rule, and its labels.
 _Identity = Tuple[str, FrozenSet[Tuple[str, str]]]
@@ -65,7 +67,7 @@ class RuleChecks:
         self._names: Set[str] = set()
         self._rules: Set[_Identity] = set()
         self._identities: Dict[int, _Identity] = {}
-        self._templates = Budget(_MOST_IN_TEMPLATES)
+        self._templates = Budget(MOST_IN_TEMPLATES)
 
     def look_at_groups(self, groups: List[Node], object_kind: str) -> None:
         """Looks at the groups of a file, or of an object of this kind."""
@@ -112,7 +114,7 @@ class RuleChecks:
         if not record and not alert:
             self._complain(rule, "a rule without `record` or `alert`")
         value = self._mappings.value(rule, "record")
-        if value and record and not _METRIC.fullmatch(record):
+        if value and record and not METRIC.fullmatch(record):
             self._complain(value, f"not a metric's name: `{record}`")
         for key in ("record", "alert", "expr") if self._has_aliases else ():
             self._look_for_alias(rule, key)
@@ -188,13 +190,13 @@ class RuleChecks:
 
     def _look_at_label(self, key: Node, value: Node, name: str, is_template: bool) -> None:
         one = "an annotation" if name == "annotations" else "a label"
-        if not key.is_scalar() or not _LABEL.fullmatch(key.value):
+        if not key.is_scalar() or not LABEL.fullmatch(key.value):
             self._complain(key, f"not {one}'s name" + (f": `{key.value}`" if key.is_scalar() else ""))
         elif key.value == "__name__" and name == "labels":
             self._complain(key, "`__name__` is no label of a rule")
         if not value.is_scalar():
             self._complain(value, f"{one}'s value is not a text")
-        elif not value.value.isascii() and _SURROGATE.search(value.value):
+        elif not value.value.isascii() and SURROGATE.search(value.value):
             self._complain(value, "half of a surrogate pair")
         elif is_template:
             self._look_at_template(value)
@@ -246,6 +248,12 @@ class RuleChecks:
 def mappings_in(node: Optional[Node]) -> List[Node]:
     """The mappings of a list."""
     return [item for item in node.value if item.kind == "mapping"] if node and node.kind == "sequence" else []
+
+
+def is_duration(text: str) -> bool:
+    """Whether Prometheus takes a text as the duration of a rule."""
+    found = None if text in _USUAL else DURATION.fullmatch(text)
+    return text in _USUAL or bool(text and found and _nanoseconds(found) <= _LONGEST)
 
 
 def _nanoseconds(duration: Match[str]) -> int:

@@ -208,7 +208,7 @@ _REST, _BLANK = re.compile(r"[^\r\n]*"), re.compile(r"[ \t\r\n]*")
 _ESCAPES = dict(zip('0abt\tnvfre "/\\N_LP', '\0\a\b\t\t\n\v\f\r\x1b "/\\\x85\xa0\u2028\u2029'))
 _HEADER = re.compile(r"[|>]([-+1-9]*)([^\r\n]*)")
 # What only a double-quoted scalar can have, by an escape.
-_UNPRINTABLE = re.compile("[^\n\x20-\x7e\xa0-\u2027\u202a-\ud7ff\ue000-\ufefe\uff00-\ufffd\U00010000-\U0010ffff]")
+_UNPRINTABLE = re.compile("[\0-\t\v-\x1f\x7f-\x9f\u2028\u2029\ud800-\udfff\ufeff\ufffe\uffff]")
 _PLAIN = re.compile(r"(?:[^-?:,\[\]{}#&*!|>'\"%@` ]|[-?:](?! |\Z))(?:(?!: | #|:\Z| \Z).)*")
 # The columns of the key with what follows it, and how much farther in than the key a block is.
 _KEY = len("expr: ")
