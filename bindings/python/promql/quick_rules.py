@@ -38,7 +38,7 @@ class RulesInOrder(Document):
         reader, yaml = reader_of(source.text), import_module("yaml")
         self._take, self._scalar, self._ends = reader.get_event, yaml.ScalarEvent, (yaml.MappingEndEvent, yaml.SequenceEndEvent)
         self._begins = {type(None): yaml.ScalarEvent, dict: yaml.MappingStartEvent, list: yaml.SequenceStartEvent}
-        self._nodes_left = min(checker.nodes_left, _MOST_NODES) - 1
+        self._nodes_left = min(checker.nodes_left, _MOST_NODES)
         self._templates = Budget(MOST_IN_TEMPLATES)
         self._rules: Set[Any] = set()
         try:
@@ -57,7 +57,8 @@ class RulesInOrder(Document):
 
     def _read(self, event: Any, shape: Any) -> Any:
         """What begins with an event, which is to be of this shape, without anchors and tags. Its queries are looked at, too."""
-        _surely(type(event) is self._begins[type(shape)] and event.anchor is None and event.tag is None)
+        _surely(type(event) is self._begins[type(shape)] and event.anchor is None and event.tag is None and self._nodes_left > 0)
+        self._nodes_left -= 1
         if shape is None:
             _surely(event.style or event.value not in _NO_TEXTS)
             return event.value
@@ -65,18 +66,17 @@ class RulesInOrder(Document):
         if type(shape) is list:
             while type(item := take()) is not self._ends[1]:
                 items.append(self._read(item, shape[0]))
-            self._nodes_left -= len(items)
             return items
         found: Dict[str, Any] = {}
         while type(key := take()) is scalar:
+            self._nodes_left -= 1
             name, value = key.value, take()
             _surely(name not in found and key.anchor is None and key.tag is None)
             _surely(name in shape or not shape and name != "__name__" and LABEL.fullmatch(name))
             found[name] = self._read(value, shape.get(name))
             if name == "expr" and shape:
                 self._look_at_query(key, value)
-        self._nodes_left -= 2 * len(found)
-        _surely(type(key) is self._ends[0] and self._nodes_left >= 0)
+        _surely(type(key) is self._ends[0])
         return found
 
     def _look_at_query(self, key: Any, value: Any) -> None:
