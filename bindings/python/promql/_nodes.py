@@ -182,17 +182,15 @@ def _write_function(form: Dict[str, Any], member: str, name: str) -> None:
 
 
 _EXPR = Kind((Expr,), "an expression")
-FIELD_KINDS.update(
-    {
-        "Expr": _EXPR,
-        "Optional[Expr]": Kind((Expr, NoneType), "an expression or None"),
-        "Tuple[Expr, ...]": Kind((tuple,), "a tuple of expressions", item=_EXPR),
-        "Optional[Matching]": Kind((Matching, NoneType), "Matching or None", lambda it, name: it.value(name) and Matching.read(it.below(name)), _write_matching),
-        "Optional[RangeMode]": Kind((str, NoneType), "a string or None", _read_mode, _write_mode),
-        "Optional[At]": Kind((int, str, NoneType), "a whole number, a string or None", _read_at, _write_at),
-        "FunctionName": Kind((str,), "a string", _read_function, _write_function),
-    }
-)
+FIELD_KINDS.update({
+    "Expr": _EXPR,
+    "Optional[Expr]": Kind((Expr, NoneType), "an expression or None"),
+    "Tuple[Expr, ...]": Kind((tuple,), "a tuple of expressions", item=_EXPR),
+    "Optional[Matching]": Kind((Matching, NoneType), "Matching or None", lambda it, name: it.value(name) and Matching.read(it.below(name)), _write_matching),
+    "Optional[RangeMode]": Kind((str, NoneType), "a string or None", _read_mode, _write_mode),
+    "Optional[At]": Kind((int, str, NoneType), "a whole number, a string or None", _read_at, _write_at),
+    "FunctionName": Kind((str,), "a string", _read_function, _write_function),
+})
 
 
 @with_slots

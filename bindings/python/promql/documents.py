@@ -120,7 +120,10 @@ class Status(IntEnum):
     @staticmethod
     def last(statuses: Iterable[Status]) -> Status:
         """The one of these that counts."""
-        return max(statuses, key=list(Status).index)
+        return max(statuses, key=_RANKS.__getitem__)
+
+
+_RANKS = {status: rank for rank, status in enumerate(Status)}
 
 
 class Skipped(Exception):

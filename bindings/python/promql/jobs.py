@@ -53,6 +53,8 @@ class Report(NamedTuple):
 
     def judged(self, fail_on: Optional[str] = None, is_strict: bool = False) -> Report:
         """The same with the status that its messages ask for."""
+        if not self.messages:
+            return self
         failures = [_fails(message, fail_on, is_strict) for message in self.messages]
         failed = [message.status for message, fails in zip(self.messages, failures) if fails]
         return self._replace(status=Status.last([self.status, *failed]), failures=failures)

@@ -196,8 +196,7 @@ def as_sarif(command: str, told: List[Told]) -> str:
 
 def _sarif_rule(message: Message) -> Json:
     return {
-        "id": message.code,
-        "name": message.name or message.code,
+        "id": message.code, "name": message.name or message.code,
         "shortDescription": {"text": message.help or DESCRIPTIONS[message.code]},
         "defaultConfiguration": {"level": _LEVELS[message.severity]},
     }

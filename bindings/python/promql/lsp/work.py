@@ -56,9 +56,7 @@ def _fix(job: Job) -> Any:
 
 
 _WORK: Dict[str, Callable[[Job], Any]] = {
-    READ: _read,
-    FORMAT: lambda job: rule_file_edits(job.text, job.wanted, job.settings, job.is_json),
-    FIX: _fix,
+    READ: _read, FORMAT: lambda job: rule_file_edits(job.text, job.wanted, job.settings, job.is_json), FIX: _fix,
     RENAME: lambda job: changes_in_folders(job.wanted),
 }
 
