@@ -19,9 +19,7 @@ JsonPath = Tuple[Any, ...]
 
 # The keys around an `expr` from the innermost one on; an index of a list is None.
 _QUERIES = (
-    (None, "targets"),
-    (None, "list", "annotations"),
-    ("target", None, "list", "annotations"),
+    (None, "targets"), (None, "list", "annotations"), ("target", None, "list", "annotations"),
     # Of an alert rule.
     ("model", None, "data"),
     # Of the second schema: a panel, and an annotation.

@@ -25,21 +25,11 @@ from .scalars import Entry, Mappings, Node, Scalar
 BOARDS = "promql.dashboards"
 # The parts of a rule file that are in one, by the key; in a list it is None. What is unknown in a document may have groups as well.
 _PARTS = {
-    ("document", "tests"): "tests",
-    ("tests", None): "test",
-    ("test", "promql_expr_test"): "queries",
-    ("queries", None): "rule",
-    ("document", "groups"): "groups",
-    ("document", "rules"): "rules",
-    ("groups", None): "group",
-    ("group", "rules"): "rules",
-    ("rules", None): "rule",
-    ("rule", "expr"): "expr",
+    ("document", "tests"): "tests", ("tests", None): "test", ("test", "promql_expr_test"): "queries", ("queries", None): "rule",
+    ("document", "groups"): "groups", ("document", "rules"): "rules", ("groups", None): "group", ("group", "rules"): "rules",
+    ("rules", None): "rule", ("rule", "expr"): "expr",
     # Of Grafana.
-    ("rule", "data"): "data",
-    ("data", None): "question",
-    ("question", "model"): "model",
-    ("model", "expr"): "expr",
+    ("rule", "data"): "data", ("data", None): "question", ("question", "model"): "model", ("model", "expr"): "expr",
 }
 # `namespace` is of the files that mimirtool and cortextool load.
 _FIELDS = frozenset(("groups", "namespace"))
