@@ -3,4 +3,5 @@ pub mod FiniteReaches
 mod MadeTexts
 pub mod FindingRows
 pub mod RealTimes
+pub mod SeriesAnswers
 pub mod SeriesLabels
