@@ -162,7 +162,8 @@ func TestMayRead(t *testing.T) {
 		{"max_over_time(up{team='',other=~'x?'}[5m:])", up, true},
 		{"down + on () {__name__=~'d.*'}", up, false},
 		{"info(down)", map[string]string{"__name__": "target_info"}, true},
-		{"{a!='b'}", nil, true},
+		{"{a!='b',c='d'}", map[string]string{"c": "d"}, true},
+		{"up", nil, false},
 		{"up", map[string]string{}, false},
 	}
 	for _, row := range rows {

@@ -634,7 +634,8 @@ static void test_may_read(void)
         {"up{team='',other=~'x?'}[5m:]", up, "true"},
         {"down + on () {__name__=~'d.*'}", up, "false"},
         {"info(down)", "{\"__name__\":\"target_info\"}", "true"},
-        {"{a!='b'}", "{}", "true"},
+        {"{a!='b',c='d'}", "{\"c\":\"d\"}", "true"},
+        {"up", "{}", "false"},
         {"up", " { } ", "false"},
         {"1", up, "false"},
     };

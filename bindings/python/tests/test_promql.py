@@ -377,7 +377,7 @@ class Texts(unittest.TestCase):
             ("max_over_time(up{team='',other=~'x?'}[5m:])", up, True),
             ("down + on () {__name__=~'d.*'}", up, False),
             ("info(down)", MappingProxyType({"__name__": "target_info"}), True),
-            ("{a!='b'}", {}, True),
+            ("{a!='b',c='d'}", {"c": "d"}, True),
             ("up", {}, False),
         )
         for query, labels, wanted in rows:

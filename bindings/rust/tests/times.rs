@@ -117,7 +117,7 @@ fn a_series_may_be_read() {
     let info = HashMap::from([("__name__".to_string(), "target_info".to_string())]);
     assert_eq!(may_read("info(down)", &info), Ok(true));
     let none: [(&str, &str); 0] = [];
-    assert_eq!(may_read("{a!='b'}", none), Ok(true));
+    assert_eq!(may_read("{a!='b',c='d'}", [("c", "d")]), Ok(true));
     assert_eq!(may_read("up", none), Ok(false));
     assert!(matches!(may_read("1 +", up), Err(Error::Rejected(_))));
 }
