@@ -32,7 +32,7 @@ extern "C" {
 #endif
 
 /* The version of this header; promql_version has that of the library. */
-#define PROMQL_VERSION "0.6.0"
+#define PROMQL_VERSION "0.7.0"
 
 /* How promql_print prints. */
 enum promql_mode {
@@ -61,7 +61,7 @@ enum promql_target {
  * A thread needs more than these, for what it does itself. */
 #define PROMQL_STACK 1310720
 
-/* 0, or why the buffer does not have what was asked for. With 1 to 6, 9, 11 to 14, 16 to 18, 20 to 26 the text is the message of
+/* 0, or why the buffer does not have what was asked for. With 1 to 6, 9, 11 to 14, 16 to 18, 20 to 27 the text is the message of
  * the error. */
 enum promql_status {
     PROMQL_OK = 0,
@@ -88,8 +88,10 @@ enum promql_status {
     PROMQL_CLASH = 22,           /* both labels are in one list, and would become one */
     PROMQL_READ_OTHERWISE = 23,  /* the target reads the query otherwise, and the result has the place, or the matcher */
     PROMQL_REFUSED = 24,         /* promql_check: the target rejects the query, and the result has the place */
-    PROMQL_TIME_OVERFLOW = 25,   /* promql_windows, promql_last_read: a time is below -2^63 or above 2^63 - 1; the message shows the node */
-    PROMQL_GRID_FUNCTION = 26    /* promql_pinned: the query calls start, end, step or range, whose values are those of the whole query */
+    PROMQL_TIME_OVERFLOW = 25,   /* promql_windows, promql_reaches, promql_last_read: a time is below -2^63 or above 2^63 - 1; the message
+                                    shows the node */
+    PROMQL_GRID_FUNCTION = 26,   /* promql_pinned: the query calls start, end, step or range, whose values are those of the whole query */
+    PROMQL_NOT_LABELS = 27       /* promql_may_read: the labels are not JSON, or not an object whose members are texts */
 };
 
 struct promql_result {
@@ -168,10 +170,18 @@ uint32_t promql_tokens(const char *text, size_t text_length, char *buffer, size_
                        struct promql_result *result);
 
 /* Shows when each selector of a query reads over all times of the query, as JSON: an array with an array for each selector, in the order of a
- * walk: the selector as it prints without its range, and the first and the last millisecond of its window, as ["a",-300000,0]. Both are null
- * where the selector is never evaluated. A call of info without a second argument also has target_info, after its argument
- * (docs/guide/bindings.md, "When a query reads"). */
+ * walk: the selector as it prints without its range, the first and the last millisecond of its window, and the bytes of the query from and up
+ * to which it is, as ["a",-300000,0,0,1]. The milliseconds are null where the selector is never evaluated. A call of info without a second
+ * argument also has target_info, after its argument, whose bytes are null (docs/guide/bindings.md, "When a query reads"). */
 uint32_t promql_windows(const char *query, size_t query_length, const struct promql_times *times, char *buffer, size_t buffer_size,
+                        struct promql_result *result);
+
+/* Shows how far from the time of evaluation each selector of a query reads, whatever that time is, as JSON: an array with an array for each
+ * selector, in the order of promql_windows: the selector, the first and the last millisecond, and whether they are fixed. Where they are not,
+ * as in ["a offset 1h",-3900000,-3600000,false], they are counted from the time of evaluation; where a selector or a subquery around it has
+ * an @, as in ["a @ 100.000",-200000,100000,true], from the epoch. Of `times` the steps count for nothing here, and `start` and `end` only
+ * where the query has @ start() or @ end(). */
+uint32_t promql_reaches(const char *query, size_t query_length, const struct promql_times *times, char *buffer, size_t buffer_size,
                         struct promql_result *result);
 
 /* Shows the last millisecond that a query reads where it is evaluated at `time`, as JSON: a number, or null where it reads nothing. Once all
@@ -189,6 +199,12 @@ uint32_t promql_pinned(const char *query, size_t query_length, int64_t start, in
  * (docs/reference/when.md, "Constant queries"). */
 uint32_t promql_is_constant(const char *query, size_t query_length, char *buffer, size_t buffer_size,
                             struct promql_result *result);
+
+/* Shows whether a query may read a series with these labels, as JSON: true or false. The labels are an object of JSON whose members are texts,
+ * as {"__name__":"up","job":"api"}; where it has a name twice, the last counts. Where the text is false the series may come or go, and what
+ * the query gives stays the same (docs/guide/bindings.md, "Series that a query may read"). */
+uint32_t promql_may_read(const char *query, size_t query_length, const char *labels, size_t labels_length, char *buffer,
+                         size_t buffer_size, struct promql_result *result);
 
 /* Checks a query, also whether the target reads it otherwise or rejects it (promql_set_target). The text is empty where it is accepted. */
 uint32_t promql_check(const char *query, size_t query_length, char *buffer, size_t buffer_size,
