@@ -3,7 +3,6 @@ use Rattle.std.specs.Prelude.{ℕ, ◌==◌, Bool, if◌then◌else◌, bytes_eq
 use Rattle.std.specs.Map.{lookup}
 use Rattle.promql_text.specs.Texts.{Text}
 use Rattle.promql_span.specs.ByteEscapes.{byte_escape}
-use Rattle.promql_span.specs.declared.differences.Printed.{Printed}
 use Rattle.promql_span.specs.declared.differences.Printed.TheVariants.{Layout, Nothing, SortedLayout}
 use Rattle.promql_span.specs.declared.limits.Limits.{Limits}
 use Rattle.promql_span.specs.declared.span.Span.{Span}

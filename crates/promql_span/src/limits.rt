@@ -156,11 +156,17 @@ impl From<AllocError> for LimitFault {
 }
 
 /// Whether a query may have a pattern: the operators before patterns have a tilde.
+#[tactic(auto, using(std::proofs::lemmas::Grind::common_steps))]
 pub fn may_have_pattern(query: &str) -> bool
     ensures tilde { result ≡ list_any (λ b. b == code "~") query.now }
     ensures none { result ≡ false → spec.patterns_size query.now ≡ 0 }
 {
-    query.as_bytes().contains(&b'~')
+    for &byte in query.as_bytes() {
+        if byte == b'~' {
+            return true;
+        }
+    }
+    false
 }
 
 /// Checks that a query is within its limits. Each string directly after `=~` or `!~`, up to a lexical fault, is a pattern.
