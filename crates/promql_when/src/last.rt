@@ -43,8 +43,8 @@ pub fn last_read<'a>(
     }
 }
 
-/// The last millisecond of the windows.
-fn last_of(found: &[SelectorWindow<'_>]) -> Option<i64>
+/// The last millisecond of the windows; None where all of them are empty.
+pub fn last_of(found: &[SelectorWindow<'_>]) -> Option<i64>
     ensures { result ≡ spec.last_of (found_of found.now) }
 {
     let mut last = None;

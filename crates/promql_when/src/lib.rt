@@ -11,7 +11,7 @@ mod series;
 mod times;
 mod window;
 
-pub use last::{is_constant, last_read};
+pub use last::{is_constant, last_of, last_read};
 pub use overflow::{TimedNode, WindowsError};
 pub use pinning::{PinError, asks_grid, pinned};
 pub use reach::{Reach, SelectorReach, reaches};
