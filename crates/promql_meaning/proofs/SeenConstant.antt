@@ -1,5 +1,6 @@
 -- A constant query sees the same at every time.
 use Rattle.std.proofs.Common.{◌≡◌, ℕ, ◌+◌, refl, sym, ◌∙◌, ap, Bool, true, false, true≢false, cond, ◌||◌, Option, Some, None, List, [], ◌∷◌, codes, map}
+use Rattle.std.proofs.lemmas.Bool.{and_parts}
 use Rattle.std.specs.Prelude.{ℤ, bytes_eq, nat_le, not, unwrap_or}
 use Rattle.promql_kind.specs.Functions.{Signature, name_of}
 use Rattle.promql_kind.specs.Modifiers.{including}
@@ -11,7 +12,6 @@ use Rattle.promql_when.specs.Last.{all_constant, depends_on_time, is_constant, m
 use Rattle.promql_when.specs.Windows.{after_range, base, before_range, instant, millis, multiples_in, shifted, step_of}
 use Rattle.promql_when.specs.declared.times.Times.{Times}
 use Rattle.promql_when.proofs.ConstantReads as whens
-use Rattle.promql_when.proofs.Orders.{first_of, second_of}
 use Rattle.promql_meaning.specs.Seen.{Beside, all_seen, beside, info_beside, is_absent, joined, matchers_in, maybe_seen, nothing, seen}
 use Rattle.promql_meaning.specs.SeenAt.{SeenAt, SeenAts, aggregated, all_at_time, at_time, beside_at, called, extended, first_seen, in_window, instants, listed, negated, none_seen, operated, ranges, seen_at, stepped}
 use Rattle.promql_meaning.specs.Stores.{Store, read}
@@ -55,11 +55,11 @@ module _ (ts : Times) (store : Store) (x y : ℤ) where
   mutual
     pub same_seen : (t : Tree) → is_constant t ≡ true → seen_at ts store t x ≡ seen_at ts store t y
     same_seen (aggregate op e p m) is =
-        λ i. aggregated op (same_seen e (second_of (maybe_constant p) (is_constant e) is) i) (maybe_same p (first_of (maybe_constant p) (is_constant e) is) i)
+        λ i. aggregated op (same_seen e (and_parts (maybe_constant p) (is_constant e) is).1 i) (maybe_same p (and_parts (maybe_constant p) (is_constant e) is).0 i)
         (unwrap_or m (including []))
     same_seen (unary e) is = ap negated (same_seen e is)
     same_seen (binary op l r m) is =
-        λ i. operated op (same_seen l (first_of (is_constant l) (is_constant r) is) i) (same_seen r (second_of (is_constant l) (is_constant r) is) i) (joined m)
+        λ i. operated op (same_seen l (and_parts (is_constant l) (is_constant r) is).0 i) (same_seen r (and_parts (is_constant l) (is_constant r) is).1 i) (joined m)
     same_seen (paren e) is = same_seen e is
     same_seen (subquery e offset None range step) is = absurd (true≢false (sym is))
     same_seen (subquery e offset (Some m) range step) is =
@@ -75,8 +75,8 @@ module _ (ts : Times) (store : Store) (x y : ℤ) where
         λ i. ranges (same_base offset m i) range mode
         (in_window (whens.same_window ts x y offset m (millis range + before_range ts mode) (after_range ts mode) i) (read (selector name cs offset (Some m)) store))
     same_seen (call f args) is =
-        λ i. called f (same_beside f args (no_info f (first_of (not (depends_on_time f)) (all_constant args) is)) i)
-        (all_same args (second_of (not (depends_on_time f)) (all_constant args) is) i)
+        λ i. called f (same_beside f args (no_info f (and_parts (not (depends_on_time f)) (all_constant args) is).0) i)
+        (all_same args (and_parts (not (depends_on_time f)) (all_constant args) is).1 i)
     same_seen (extension name gives es) is = absurd (true≢false (sym is))
 
     maybe_same : (p : MaybeTree) → maybe_constant p ≡ true → all_at_time ts (maybe_seen store p) x ≡ all_at_time ts (maybe_seen store p) y
@@ -86,4 +86,4 @@ module _ (ts : Times) (store : Store) (x y : ℤ) where
     all_same : (es : Trees) → all_constant es ≡ true → all_at_time ts (all_seen store es) x ≡ all_at_time ts (all_seen store es) y
     all_same no_trees is = refl
     all_same (first_tree e es) is =
-        λ i. first_seen (same_seen e (first_of (is_constant e) (all_constant es) is) i) (all_same es (second_of (is_constant e) (all_constant es) is) i)
+        λ i. first_seen (same_seen e (and_parts (is_constant e) (all_constant es) is).0 i) (all_same es (and_parts (is_constant e) (all_constant es) is).1 i)

@@ -1,5 +1,6 @@
 -- At a time a query sees the same of a store that has only samples of which all that it reads is one.
 use Rattle.std.proofs.Common.{◌≡◌, ℕ, refl, sym, ◌∙◌, ap, Bool, true, false, cond, ◌&&◌, ◌||◌, List, [], ◌∷◌, ◌++◌, map}
+use Rattle.std.proofs.lemmas.Bool.{or_left, or_right}
 use Rattle.std.specs.Prelude.{ℤ, None, filter, nat_le, unwrap_or}
 use Rattle.std.specs.List.{flat_map}
 use Rattle.promql_kind.specs.Functions.{Signature}
@@ -23,13 +24,6 @@ use Rattle.promql_meaning.proofs.SeenClauses.{matchers_in_first}
 
 abbrev Reads : Type 0
 Reads = List (Selector × Window)
-
-or_left : (a b : Bool) → a ≡ true → a || b ≡ true
-or_left a b is = ap (λ a. a || b) is
-
-or_right : (a b : Bool) → b ≡ true → a || b ≡ true
-or_right true b is = refl
-or_right false b is = is
 
 module _ (known : Series → ℤ → Bool) where
   -- all of these samples are known

@@ -1,7 +1,7 @@
 -- Each sample that a query reads at a time is seen then: a store with it alone and an empty one are seen apart.
 use Rattle.std.proofs.Common.{◌≡◌, ◌≢◌, ℕ, refl, sym, ◌∙◌, ap, Bool, true, false, true≢false, cond, arith, ◌+◌, ◌&&◌, ◌||◌, List, [], ◌∷◌, ◌++◌, codes, map}
 use Rattle.std.specs.Prelude.{ℤ, None, bytes_eq, filter, nat_le}
-use Rattle.std.proofs.lemmas.Bool.{leb-true}
+use Rattle.std.proofs.lemmas.Bool.{and_parts, leb-true}
 use Rattle.std.proofs.lemmas.Slice.Eq.{bytes_eq-Decides}
 use Rattle.std.specs.List.{flat_map}
 use Rattle.promql_kind.specs.Functions.{Signature, name_of}
@@ -14,7 +14,7 @@ use Rattle.promql_when.specs.Reads.{all_reads, is_bare_info, is_read, maybe_read
 use Rattle.promql_when.specs.Windows.{instant, is_within, matrix_window, multiples_in, step_of, subquery_window, vector_window}
 use Rattle.promql_when.specs.declared.times.Times.{Times}
 use Rattle.promql_when.specs.declared.times.Window.{Window}
-use Rattle.promql_when.proofs.Orders.{first_of, or_cases, second_of}
+use Rattle.promql_when.proofs.Orders.{or_cases}
 use Rattle.promql_when.proofs.WithinWindows.{any_joined}
 use Rattle.promql_meaning.specs.Seen.{Beside, all_seen, beside, info_beside, is_absent, matchers, maybe_seen, nothing, seen, series}
 use Rattle.promql_meaning.specs.SeenAt.{SeenAt, SeenAts, aggregated, all_at_time, at_time, beside_at, called, extended, first_seen, in_window, instants, listed, negated, none_seen, operated, ranges, seen_at, stepped}
@@ -93,8 +93,8 @@ module _ (ts : Times) (labels : Series) (y : ℤ) (value : ℕ) where
   any_in : (s : Selector) (w : Window) → is_among ((s, w) ∷ []) ≡ true → is_any (in_window w (read s with_one)) ≡ true
   any_in s w is =
       let both = one_or (selects s labels && is_within w y) is in
-      ap (λ b. is_any (in_window w (cond b with_one []))) (first_of (selects s labels) (is_within w y) both)
-      ∙ lies_in w true (second_of (selects s labels) (is_within w y) both)
+      ap (λ b. is_any (in_window w (cond b with_one []))) (and_parts (selects s labels) (is_within w y) both).0
+      ∙ lies_in w true (and_parts (selects s labels) (is_within w y) both).1
 
   -- what a call of `info` without a second argument reads
   info_series : (f : Signature) (args : Trees) (x : ℤ) (store : Store) → is_bare_info f args ≡ true
@@ -102,8 +102,8 @@ module _ (ts : Times) (labels : Series) (y : ℤ) (value : ℕ) where
   info_series f args x store bare =
       ap (λ n. series_of (beside_at ts x (cond (bytes_eq n (codes "absent") || bytes_eq n (codes "absent_over_time")) (matchers_in_first args)
       (cond (bytes_eq n (codes "info")) (info_beside store args) nothing))))
-      ((bytes_eq-Decides (name_of f) (codes "info")).0 (first_of (bytes_eq (name_of f) (codes "info")) (nat_le (count args) 1) bare))
-      ∙ of_args args (second_of (bytes_eq (name_of f) (codes "info")) (nat_le (count args) 1) bare)
+      ((bytes_eq-Decides (name_of f) (codes "info")).0 (and_parts (bytes_eq (name_of f) (codes "info")) (nat_le (count args) 1) bare).0)
+      ∙ of_args args (and_parts (bytes_eq (name_of f) (codes "info")) (nat_le (count args) 1) bare).1
     where
       of_args : (args : Trees) → nat_le (count args) 1 ≡ true
           → series_of (beside_at ts x (info_beside store args)) ≡ in_window (vector_window ts None None (instant x)) (read target_info store)

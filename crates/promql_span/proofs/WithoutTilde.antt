@@ -1,19 +1,19 @@
 -- A text without a tilde has no operator before a pattern, and so no pattern.
-use Rattle.std.proofs.Common.{◌≡◌, ℕ, zero, suc, ◌+◌, ◌-◌, refl, sym, ◌∙◌, ap, subst, Bool, true, false, true≢false, cond, arith, ◌&&◌, ◌||◌, List, [], ◌∷◌, ◌++◌, length, map, take, drop, Ok, Err, Result, inl, inr}
-use Rattle.std.specs.Prelude.{◌==◌, ◌⊎◌, ◌^◌, codes, filter, min, not, slice_index, sum, unwrap_or}
+use Rattle.std.proofs.Common.{◌≡◌, ℕ, zero, suc, ◌+◌, ◌-◌, refl, sym, ◌∙◌, ap, Bool, true, false, true≢false, arith, ◌&&◌, ◌||◌, List, [], ◌∷◌, ◌++◌, length, map, take, drop, Ok, Err, inl, inr}
+use Rattle.std.specs.Prelude.{◌==◌, ◌^◌, codes, filter, min, not, slice_index, sum, unwrap_or}
 use Rattle.std.specs.Str.{str_eq_ignore_ascii_case}
 use Rattle.std.specs.List.{list_all, list_any}
 use Rattle.std.specs.Result.{ok_prefix}
-use Rattle.std.proofs.lemmas.Bool.{cond_both, eqb-true}
+use Rattle.std.proofs.lemmas.Bool.{and_parts, cond_both, eqb-true}
 use Rattle.std.proofs.lemmas.List.{length-take-le, take-append-drop}
 use Rattle.promql_text.specs.Texts.{Text, lookup}
 use Rattle.promql_token.specs.Begins.{IsOneOf, MayBegin, punctuators}
 use Rattle.promql_token.specs.Cursor.{is_before_end, tokens_up_to_fault}
 use Rattle.promql_token.specs.Ids.{keyword_in_any_case, keywords}
-use Rattle.promql_token.specs.Lexing.{Found, ScannedText, cut, cut_from, found, goes_on, len_of, pieces, scanned_text, start, state_after_scan}
+use Rattle.promql_token.specs.Lexing.{Found, ScannedText, cut, cut_from, found, goes_on, len_of, scanned_text, start, state_after_scan}
 use Rattle.promql_token.specs.TokenScanning.{Scanned, after_trivia, end_in, scan_token, trivia_len}
 use Rattle.promql_token.specs.Vocabulary.{braces_id, is_fill, name_id, opens, word_id}
-use Rattle.promql_token.specs.declared.ids.TheConstants.{T_EOF, T_EQL_REGEX, T_IDENTIFIER, T_LOR, T_NEQ_REGEX}
+use Rattle.promql_token.specs.declared.ids.TheConstants.{T_EOF, T_EQL_REGEX, T_NEQ_REGEX}
 use Rattle.promql_token.specs.declared.state.Bracket.TheVariants as bracket
 use Rattle.promql_token.specs.declared.state.Mode.{Mode}
 use Rattle.promql_token.specs.declared.state.Mode.TheVariants as mode
@@ -30,14 +30,6 @@ has_tilde = list_any (λ b. b == 126)
 
 -- ---- such an operator has a tilde
 
-first_of : (a b : Bool) → a && b ≡ true → a ≡ true
-first_of true b is = refl
-first_of false b is = is
-
-second_of : (a b : Bool) → a && b ≡ true → b ≡ true
-second_of true b is = is
-second_of false b is = absurd (true≢false (sym is))
-
 implied : (a b : Bool) → not a || b ≡ true → a ≡ true → b ≡ true
 implied true b is hit = is
 implied false b is hit = absurd (true≢false (sym hit))
@@ -51,15 +43,15 @@ is_tilded_row s = not (is_operator s.1) || has_tilde s.0
 one_of : (ss : List (Text × ℕ × Text)) (id : ℕ) (w r : Text) → list_all is_tilded_row ss ≡ true → IsOneOf ss id w r → Tilded id w
 one_of [] id w r all one is = absurd one
 one_of (s ∷ ss) id w r all (inl (text, same, rest)) is =
-    ap has_tilde text ∙ implied (is_operator s.1) (has_tilde s.0) (first_of (is_tilded_row s) (list_all is_tilded_row ss) all) (ap is_operator (sym same) ∙ is)
-one_of (s ∷ ss) id w r all (inr one) is = one_of ss id w r (second_of (is_tilded_row s) (list_all is_tilded_row ss) all) one is
+    ap has_tilde text ∙ implied (is_operator s.1) (has_tilde s.0) (and_parts (is_tilded_row s) (list_all is_tilded_row ss) all).0 (ap is_operator (sym same) ∙ is)
+one_of (s ∷ ss) id w r all (inr one) is = one_of ss id w r (and_parts (is_tilded_row s) (list_all is_tilded_row ss) all).1 one is
 
 looked_up : (same : Text → Text → Bool) (ks : List (Text × ℕ)) (w : Text) (d : ℕ) → list_all (λ k. not (is_operator k.1)) ks ≡ true
     → is_operator d ≡ false → is_operator (unwrap_or (lookup same ks w) d) ≡ false
 looked_up same [] w d all other = other
 looked_up same (k ∷ ks) w d all other =
-    cond_both (same k.0 w) _ _ (λ o. is_operator (unwrap_or o d) ≡ false) (λ _. is_no (is_operator k.1) (first_of (not (is_operator k.1)) _ all))
-    (λ _. looked_up same ks w d (second_of (not (is_operator k.1)) _ all) other)
+    cond_both (same k.0 w) _ _ (λ o. is_operator (unwrap_or o d) ≡ false) (λ _. is_no (is_operator k.1) (and_parts (not (is_operator k.1)) _ all).0)
+    (λ _. looked_up same ks w d (and_parts (not (is_operator k.1)) _ all).1 other)
   where
     is_no : (a : Bool) → not a ≡ true → a ≡ false
     is_no true is = sym is
@@ -193,7 +185,7 @@ has_operator = list_any (λ t. is_operator t.0)
 none_among : (fs : List Found) → list_all (λ f. is_other f.scanned_text) fs ≡ true
     → has_operator (filter is_before_end (ok_prefix (map (λ f. f.scanned_text) fs))) ≡ false
 none_among [] all = refl
-none_among (f ∷ fs) all = go f.scanned_text (first_of (is_other f.scanned_text) _ all) (none_among fs (second_of (is_other f.scanned_text) _ all))
+none_among (f ∷ fs) all = go f.scanned_text (and_parts (is_other f.scanned_text) _ all).0 (none_among fs (and_parts (is_other f.scanned_text) _ all).1)
   where
     is_no : (a : Bool) → not a ≡ true → a ≡ false
     is_no true is = sym is

@@ -1,5 +1,6 @@
 -- A constant query reads the same at every time.
 use Rattle.std.proofs.Common.{◌≡◌, refl, sym, ◌∙◌, ap, ℕ, ◌+◌, Bool, true, false, true≢false, cond, ◌&&◌, ◌||◌, Option, Some, None, List, [], ◌∷◌, ◌++◌, codes}
+use Rattle.std.proofs.lemmas.Bool.{and_parts}
 use Rattle.std.specs.Prelude.{ℤ, bytes_eq, nat_le, not}
 use Rattle.std.specs.List.{flat_map}
 use Rattle.std.proofs.Math.IntN.{pos, ◌+ℤ◌, ◌-ℤ◌}
@@ -13,7 +14,6 @@ use Rattle.promql_when.specs.Reads.{all_reads, is_bare_info, maybe_reads, reads,
 use Rattle.promql_when.specs.Windows.{after_range, around, before_range, instant, millis, moment, multiples_in, opening, shifted, step_of, vector_window}
 use Rattle.promql_when.specs.declared.times.Times.{Times}
 use Rattle.promql_when.specs.declared.times.Window.{Window}
-use Rattle.promql_when.proofs.Orders.{first_of, second_of}
 
 abbrev Reads : Type 0
 Reads = List (Selector × Window)
@@ -49,11 +49,11 @@ module _ (ts : Times) (x y : ℤ) where
     pub same_reads : (t : Tree) → is_constant t ≡ true → reads ts t x ≡ reads ts t y
     same_reads (aggregate op e p m) is =
         both (maybe_reads ts p x) (maybe_reads ts p y) (reads ts e x) (reads ts e y)
-        (maybe_same p (first_of (maybe_constant p) (is_constant e) is)) (same_reads e (second_of (maybe_constant p) (is_constant e) is))
+        (maybe_same p (and_parts (maybe_constant p) (is_constant e) is).0) (same_reads e (and_parts (maybe_constant p) (is_constant e) is).1)
     same_reads (unary e) is = same_reads e is
     same_reads (binary op l r m) is =
         both (reads ts l x) (reads ts l y) (reads ts r x) (reads ts r y)
-        (same_reads l (first_of (is_constant l) (is_constant r) is)) (same_reads r (second_of (is_constant l) (is_constant r) is))
+        (same_reads l (and_parts (is_constant l) (is_constant r) is).0) (same_reads r (and_parts (is_constant l) (is_constant r) is).1)
     same_reads (paren e) is = same_reads e is
     same_reads (subquery e offset None range step) is = absurd (true≢false (sym is))
     same_reads (subquery e offset (Some m) range step) is =
@@ -66,9 +66,9 @@ module _ (ts : Times) (x y : ℤ) where
     same_reads (matrix (selector name cs offset (Some m)) range mode) is =
         ap (λ w. (selector name cs offset (Some m), w) ∷ []) (same_window offset m (millis range + before_range ts mode) (after_range ts mode))
     same_reads (call f args) is =
-        let bare = not_bare f args (first_of (not (depends_on_time f)) (all_constant args) is) in
+        let bare = not_bare f args (and_parts (not (depends_on_time f)) (all_constant args) is).0 in
         both (all_reads ts args x) (all_reads ts args y) _ _
-        (all_same args (second_of (not (depends_on_time f)) (all_constant args) is))
+        (all_same args (and_parts (not (depends_on_time f)) (all_constant args) is).1)
         (no_info (is_bare_info f args) ((target_info, vector_window ts None None (instant x)) ∷ []) bare
         ∙ sym (no_info (is_bare_info f args) ((target_info, vector_window ts None None (instant y)) ∷ []) bare))
     same_reads (extension name gives es) is = absurd (true≢false (sym is))
@@ -81,4 +81,4 @@ module _ (ts : Times) (x y : ℤ) where
     all_same no_trees is = refl
     all_same (first_tree e es) is =
         both (reads ts e x) (reads ts e y) (all_reads ts es x) (all_reads ts es y)
-        (same_reads e (first_of (is_constant e) (all_constant es) is)) (all_same es (second_of (is_constant e) (all_constant es) is))
+        (same_reads e (and_parts (is_constant e) (all_constant es) is).0) (all_same es (and_parts (is_constant e) (all_constant es) is).1)

@@ -1,5 +1,6 @@
 -- Orders of times, and windows of which one has the other.
 use Rattle.std.proofs.Common.{◌≡◌, refl, sym, ◌∙◌, ap, arith, ℕ, Bool, true, false, true≢false, ◌&&◌, ◌||◌, Option, Some, None}
+use Rattle.std.proofs.lemmas.Bool.{and_parts}
 use Rattle.std.specs.Prelude.{ℤ, int_le}
 use Rattle.std.specs.Int.Signed.{◌≤ℤ◌}
 use Rattle.std.proofs.Math.IntN.{pos, ◌+ℤ◌, ◌-ℤ◌}
@@ -23,14 +24,6 @@ le_trans a b c x y = grind arith
 pub both_true : (a b : Bool) → a ≡ true → b ≡ true → a && b ≡ true
 both_true a b x y = ap (λ c. c && b) x ∙ y
 
-pub first_of : (a b : Bool) → a && b ≡ true → a ≡ true
-first_of true b is = refl
-first_of false b is = is
-
-pub second_of : (a b : Bool) → a && b ≡ true → b ≡ true
-second_of true b is = is
-second_of false b is = absurd (true≢false (sym is))
-
 pub or_cases : (a b : Bool) (P : Type 0) → a || b ≡ true → (a ≡ true → P) → (b ≡ true → P) → P
 or_cases true b P is one other = one refl
 or_cases false b P is one other = other is
@@ -44,8 +37,8 @@ part_of_part u v w p q = (le_trans w.first v.first u.first q.0 p.0, le_trans u.l
 
 pub within_part : (v w : Window) (z : ℤ) → IsPart v w → is_within v z ≡ true → is_within w z ≡ true
 within_part v w z p is =
-    let low = le_of v.first z (first_of (int_le v.first z) (int_le z v.last) is) in
-    let high = le_of z v.last (second_of (int_le v.first z) (int_le z v.last) is) in
+    let low = le_of v.first z (and_parts (int_le v.first z) (int_le z v.last) is).0 in
+    let high = le_of z v.last (and_parts (int_le v.first z) (int_le z v.last) is).1 in
     both_true (int_le w.first z) (int_le z w.last)
     (of_le w.first z (le_trans w.first v.first z p.0 low))
     (of_le z w.last (le_trans z v.last w.last high p.1))

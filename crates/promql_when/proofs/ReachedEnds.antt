@@ -1,5 +1,6 @@
 -- The ends of windows are ends of what is read.
 use Rattle.std.proofs.Common.{◌≡◌, refl, sym, ◌∙◌, ap, ℕ, zero, suc, Bool, true, false, true≢false, cond, arith, ◌||◌, ◌+◌, ◌*◌, ◌/◌, Option, Some, None, List, [], ◌∷◌, ◌++◌}
+use Rattle.std.proofs.lemmas.Bool.{and_parts}
 use Rattle.std.specs.Prelude.{ℤ, int_le}
 use Rattle.std.specs.Int.{int_gap}
 use Rattle.std.specs.Int.Signed.{◌≤ℤ◌}
@@ -15,7 +16,7 @@ use Rattle.promql_when.specs.Windows.{after_range, around, before_range, ceil_to
 use Rattle.promql_when.specs.declared.times.Times.{Times}
 use Rattle.promql_when.specs.declared.times.Window.{Window}
 use Rattle.promql_when.proofs.Multiples.{ceil_keeps, floor_keeps, floor_under, last_multiple}
-use Rattle.promql_when.proofs.Orders.{IsPart, around_keeps, first_of as one_of, le_of, le_trans, of_le, or_cases, second_of as other_of}
+use Rattle.promql_when.proofs.Orders.{IsPart, around_keeps, le_of, le_trans, of_le, or_cases}
 use Rattle.promql_when.proofs.WithinWindows.{any_joined, or_true}
 
 abbrev Reads : Type 0
@@ -85,13 +86,13 @@ module _ (end : Window → ℤ) (is_asked : Selector → ℤ → Bool) where
       pub reached : (t : Tree) (w : Window) → w.first ≤ℤ w.last → all_evaluated end ts t (end w) ≡ true → Reaches (windows ts t (Some w)) (reads ts t (end w))
       reached (aggregate op e p m) w some is =
           joined (maybe_windows ts p (Some w)) (windows ts e (Some w)) (maybe_reads ts p (end w)) (reads ts e (end w))
-          (maybe_reached p w some (one_of (maybe_evaluated end ts p (end w)) (all_evaluated end ts e (end w)) is))
-          (reached e w some (other_of (maybe_evaluated end ts p (end w)) (all_evaluated end ts e (end w)) is))
+          (maybe_reached p w some (and_parts (maybe_evaluated end ts p (end w)) (all_evaluated end ts e (end w)) is).0)
+          (reached e w some (and_parts (maybe_evaluated end ts p (end w)) (all_evaluated end ts e (end w)) is).1)
       reached (unary e) w some is = reached e w some is
       reached (binary op l r m) w some is =
           joined (windows ts l (Some w)) (windows ts r (Some w)) (reads ts l (end w)) (reads ts r (end w))
-          (reached l w some (one_of (all_evaluated end ts l (end w)) (all_evaluated end ts r (end w)) is))
-          (reached r w some (other_of (all_evaluated end ts l (end w)) (all_evaluated end ts r (end w)) is))
+          (reached l w some (and_parts (all_evaluated end ts l (end w)) (all_evaluated end ts r (end w)) is).0)
+          (reached r w some (and_parts (all_evaluated end ts l (end w)) (all_evaluated end ts r (end w)) is).1)
       reached (paren e) w some is = reached e w some is
       reached (subquery e offset at range step) w some is =
           at_steps (step_of ts step) (subquery_window ts offset at range (instant (end w))) (subquery_window ts offset at range w)
@@ -118,8 +119,8 @@ module _ (end : Window → ℤ) (is_asked : Selector → ℤ → Bool) where
       each_reached no_trees w some is = nothing_asked []
       each_reached (first_tree e es) w some is =
           joined (windows ts e (Some w)) (all_windows ts es (Some w)) (reads ts e (end w)) (all_reads ts es (end w))
-          (reached e w some (one_of (all_evaluated end ts e (end w)) (each_evaluated end ts es (end w)) is))
-          (each_reached es w some (other_of (all_evaluated end ts e (end w)) (each_evaluated end ts es (end w)) is))
+          (reached e w some (and_parts (all_evaluated end ts e (end w)) (each_evaluated end ts es (end w)) is).0)
+          (each_reached es w some (and_parts (all_evaluated end ts e (end w)) (each_evaluated end ts es (end w)) is).1)
 
 -- ---- the first end
 

@@ -1,5 +1,6 @@
 -- What is read lies within reach.
 use Rattle.std.proofs.Common.{◌≡◌, refl, sym, ◌∙◌, ap, subst, ℕ, zero, suc, Bool, true, false, true≢false, cond, arith, ◌&&◌, ◌||◌, ◌+◌, ◌*◌, ◌/◌, ◌<◌, Option, Some, None, List, [], ◌∷◌, ◌++◌}
+use Rattle.std.proofs.lemmas.Bool.{and_parts}
 use Rattle.std.specs.Prelude.{ℤ, int_le}
 use Rattle.std.specs.Int.{int_gap}
 use Rattle.std.specs.Int.Signed.{◌≤ℤ◌}
@@ -15,7 +16,7 @@ use Rattle.promql_when.specs.declared.reach.Reach.{Reach}
 use Rattle.promql_when.specs.declared.times.Times.{Times}
 use Rattle.promql_when.specs.declared.times.Window.{Window}
 use Rattle.promql_when.proofs.Multiples.{below_last, ceil_above}
-use Rattle.promql_when.proofs.Orders.{around_keeps, both_true, first_of, le_of, of_le, or_cases, second_of, within_part}
+use Rattle.promql_when.proofs.Orders.{around_keeps, both_true, le_of, of_le, or_cases, within_part}
 use Rattle.promql_when.proofs.WithinWindows.{any_joined, or_true}
 
 abbrev Reads : Type 0
@@ -73,10 +74,10 @@ moved_last b c x z after same is =
 module _ (ts : Times) (x : ℤ) where
   -- what is looked at from within reach is within the reach of that
   low_of : (w : Window) (y : ℤ) → is_within w y ≡ true → w.first ≤ℤ y
-  low_of w y is = le_of w.first y (first_of (int_le w.first y) (int_le y w.last) is)
+  low_of w y is = le_of w.first y (and_parts (int_le w.first y) (int_le y w.last) is).0
 
   high_of : (w : Window) (y : ℤ) → is_within w y ≡ true → y ≤ℤ w.last
-  high_of w y is = le_of y w.last (second_of (int_le w.first y) (int_le y w.last) is)
+  high_of w y is = le_of y w.last (and_parts (int_le w.first y) (int_le y w.last) is).1
 
   module _ (offset : Option Shift) (before after : ℕ) where
     stays : (w : Window) (y z : ℤ) → is_within w y ≡ true → is_within (around ts offset None before after (instant y)) z ≡ true
@@ -152,8 +153,8 @@ module _ (ts : Times) (x : ℤ) where
         let q = reach_around ts offset at before after r in
         or_cases (is_one s && is_within v z) false ((is_one s && is_within_reach x z q) || false ≡ true) is
         (λ h. ap (λ t. t || false)
-        (both_true (is_one s) (is_within_reach x z q) (first_of (is_one s) (is_within v z) h)
-        (around_reach offset before after at r y z there (second_of (is_one s) (is_within v z) h))))
+        (both_true (is_one s) (is_within_reach x z q) (and_parts (is_one s) (is_within v z) h).0
+        (around_reach offset before after at r y z there (and_parts (is_one s) (is_within v z) h).1)))
         (λ h. absurd (true≢false (sym h)))
 
     at_info : (b : Bool) (r : Reach) (y : ℤ) → is_within_reach x y r ≡ true

@@ -1,5 +1,6 @@
 -- What is read at a time of a window lies within the windows of that.
 use Rattle.std.proofs.Common.{◌≡◌, refl, sym, ◌∙◌, ap, ℕ, zero, suc, Bool, true, false, true≢false, cond, arith, ◌&&◌, ◌||◌, ◌+◌, ◌*◌, ◌/◌, ◌<◌, Option, Some, None, List, [], ◌∷◌, ◌++◌}
+use Rattle.std.proofs.lemmas.Bool.{and_parts}
 use Rattle.std.specs.Prelude.{ℤ, int_le}
 use Rattle.std.specs.Int.{int_gap}
 use Rattle.std.specs.Int.Signed.{◌≤ℤ◌}
@@ -13,7 +14,7 @@ use Rattle.promql_when.specs.Windows.{after_range, before_range, ceil_to, floor_
 use Rattle.promql_when.specs.declared.times.Times.{Times}
 use Rattle.promql_when.specs.declared.times.Window.{Window}
 use Rattle.promql_when.proofs.Multiples.{IsMultiple, below_floor, below_last, ceil_is_multiple, ceil_keeps, next_is_multiple}
-use Rattle.promql_when.proofs.Orders.{IsPart, around_keeps, both_true, first_of, le_of, le_trans, of_le, or_cases, second_of, within_part}
+use Rattle.promql_when.proofs.Orders.{IsPart, around_keeps, both_true, le_of, le_trans, of_le, or_cases, within_part}
 
 abbrev Reads : Type 0
 Reads = List (Selector × Window)
@@ -63,7 +64,7 @@ module _ (is_one : Selector → Bool) (z : ℤ) where
   at_selector s v w part is =
       or_cases (is_one s && is_within v z) false ((is_one s && is_within w z) || false ≡ true) is
       (λ h. ap (λ t. t || false)
-      (both_true (is_one s) (is_within w z) (first_of (is_one s) (is_within v z) h) (within_part v w z part (second_of (is_one s) (is_within v z) h))))
+      (both_true (is_one s) (is_within w z) (and_parts (is_one s) (is_within v z) h).0 (within_part v w z part (and_parts (is_one s) (is_within v z) h).1)))
       (λ h. absurd (true≢false (sym h)))
 
   -- at times that follow one another by a step
