@@ -10,7 +10,7 @@ Where THREADS are given, each makes all calls again beside the others, and is to
 The rows are the lines of crates/promql/stdin with those of stdout. Each that asks for a query is printed in its mode, and
 checked and explained; one that asks for a line is also printed by `canonical`, and in Python by `canonical_many`. Of those with a
 matcher to enforce, each that asks for a line is one call, unless that line is too long for an output. A line that is no request is no
-call, and is left out; a line that is not UTF-8 is passed on as the query. What was expected at a syntax error comes from `explain`
+call, nor is one that asks about times, and both are left out; a line that is not UTF-8 is passed on as the query. What was expected at a syntax error comes from `explain`
 alone. The last line is 'N passed, M failed'.
 
 A file of calls has for each a line 'CALL MODE LEVEL WIDTH START END LENGTH' of numbers, and then so many bytes and a line feed. Of
@@ -120,6 +120,13 @@ def without_id(reply):
     return compact({name: value for name, value in json.loads(reply).items() if name != "id"})
 
 
+def without_warning(reply):
+    """An answer of promql batch without what the target rejects of the line: the library does not warn."""
+    if b'"warning":' not in reply:
+        return reply
+    return compact({name: value for name, value in json.loads(reply).items() if name != "warning"})
+
+
 def in_short(told):
     """An explanation as promql batch answers its query: without what the message says beside `expected` and `found`, or what to write."""
     if told["error"] in EXPLAINED:
@@ -137,7 +144,7 @@ def in_short(told):
 
 def calls_of_row(place, asked, answer):
     """Yields the calls for a line of standard input, which promql batch answers so."""
-    answer = without_id(answer)
+    answer = without_warning(without_id(answer))
     reply = without_expected(answer)
     code = json.loads(reply).get("code", 0)
     if code == 7:
@@ -146,6 +153,8 @@ def calls_of_row(place, asked, answer):
     if code != 3:
         value = json.loads(asked)
         if isinstance(value, dict):
+            if "times" in value:
+                return
             mode = "places" if value.get("places") else value.get("mode", mode)
             level = value.get("level", level)
             width = value.get("width", width)

@@ -8,10 +8,10 @@ use Rattle.serde_json.specs.Find.{get}
 use Rattle.serde_json.specs.Read.{read}
 use Rattle.serde_json.specs.Written.{compact_text}
 use Rattle.promql_text.specs.Texts.{Text}
-use Rattle.promql_lines.specs.Batch.{HasId, IsIdOf, IsLineAnswer, IsPlainAnswer, error_value, value_text}
+use Rattle.promql_lines.specs.Batch.{HasId, IsIdOf, IsLineAnswer, IsPlainAnswer, error_value, wanted_text}
 use Rattle.promql_lines.specs.BatchSteps.{FailsWith}
 use Rattle.promql_lines.specs.QueryErrors.{query_error_number, rejected_in}
-use Rattle.promql_lines.specs.Requests.{matcher_in, mode_in, query_in, unknown_in, value_fault}
+use Rattle.promql_lines.specs.Requests.{matcher_in, query_in, unknown_in, value_fault, wanted_in}
 use Rattle.promql_lines.specs.declared.query_error.QueryError.TheVariants.{NotARequest}
 use Rattle.promql_lines.specs.declared.rejected_query.RejectedQuery.{RejectedQuery}
 use Rattle.promql_lines.specs.declared.request_fault.RequestFault.TheVariants.{NotJson}
@@ -26,7 +26,8 @@ error_value_text code message None = (_, refl)
 error_value_text code message (Some r) = (_, refl)
 
 plain_object : (settings : Settings) (line printed : Text) (is_ok : Bool) → IsPlainAnswer settings line printed is_ok → IsObject printed
-plain_object settings line printed true (asked, asks, (output, has, is)) = (codes "\"ok\":" ++ (value_text asked.2 output ++ codes "}"), is)
+plain_object settings line printed true (asked, asks, (output, has, (warning, warns, is))) =
+    (codes "\"ok\":" ++ (wanted_text asked.2 output ++ (warning ++ codes "}")), is)
 plain_object settings line printed false (e, fails, (message, is)) =
     let made = error_value_text (query_error_number e) message (rejected_in e) in (made.0, is ∙ made.1)
 
@@ -57,7 +58,7 @@ none_in_bytes line not_utf8 = inr (not_utf8, refl)
 pub unread_fails : (settings : Settings) (line : Text) → IsUtf8 line → read line ≡ None → FailsWith settings line (NotARequest NotJson)
 unread_fails settings line utf8 is = inl (
   utf8,
-  ap (option_and_then (λ d. option_and_then (λ query. option_map (λ m. (query, matcher_in d, m)) (mode_in settings.format d)) (query_in d))) is,
+  ap (option_and_then (λ d. option_and_then (λ query. option_map (λ m. (query, matcher_in d, m)) (wanted_in settings.format d)) (query_in d))) is,
   ap (option_and_then unknown_in) is,
   sym (ap (λ d. option_map_or (value_fault settings.format) d NotJson) is),
 )

@@ -1,13 +1,20 @@
 -- Windows and times, as JSON, have no float.
 use Rattle.std.proofs.Common.{◌≡◌, refl, List, [], ◌∷◌, drop}
-use Rattle.std.specs.Prelude.{false, ℤ, pos, negsuc, Option, Some, None}
+use Rattle.std.specs.Prelude.{Bool, true, false, if◌then◌else◌, ℤ, pos, negsuc, Option, Some, None}
 use Rattle.std.proofs.lemmas.Bool.{or_from}
-use Rattle.serde_json.specs.Data.{Data, number, unsigned}
+use Rattle.serde_json.specs.Data.{Data, null, number, string, unsigned}
 use Rattle.serde_json.specs.Written.{has_float}
+use Rattle.promql_text.specs.Texts.{Text}
 use Rattle.promql_ast.specs.Selectors.{Selector}
+use Rattle.promql_ast.specs.Text as one_line
+use Rattle.promql_ast.specs.Tree.{Tree}
 use Rattle.promql_json.specs.JsonParts.{list, or_null, whole}
 use Rattle.promql_span.specs.declared.span.Span.{Span}
+use Rattle.promql_when.specs.Last.{last_of}
+use Rattle.promql_when.specs.Pinned.{asks_grid, pinned}
+use Rattle.promql_when.specs.declared.times.Times.{Times}
 use Rattle.promql_when.specs.declared.times.Window.{Window}
+use Rattle.promql_lines.specs.TimesText.{line_value, times_value}
 use Rattle.promql_lines.specs.WindowsText.{first_of, window_value, window_values}
 
 whole_no_float : (z : ℤ) → has_float (whole z) ≡ false
@@ -32,3 +39,13 @@ pub windows_no_float : (ws : List (Selector × Option Window)) (places : List (O
 windows_no_float [] places = refl
 windows_no_float (w ∷ ws) places =
     or_from (has_float (window_value w (first_of places))) _ (window_no_float w (first_of places)) (windows_no_float ws (drop 1 places))
+
+line_no_float : (asks : Bool) (line : Text) → has_float (if asks then null else string line) ≡ false
+line_no_float true line = refl
+line_no_float false line = refl
+
+pub times_no_float : (ts : Times) (t : Tree) (ws : List (Selector × Option Window)) (places : List (Option Span)) → has_float (times_value ts t ws places) ≡ false
+times_no_float ts t ws places =
+    or_from (has_float (or_null whole (last_of ws))) _ (last_no_float (last_of ws))
+    (or_from (has_float (line_value ts t)) _ (line_no_float (asks_grid t) (one_line.text (pinned ts.start ts.end t)))
+    (or_from (has_float (list (window_values ws places))) _ (windows_no_float ws places) refl))

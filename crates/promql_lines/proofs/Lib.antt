@@ -14,3 +14,4 @@ pub mod RequestMembers
 pub mod SelectorWalks
 pub mod Steps
 pub mod TreeMeans
+mod WarnedAnswers

@@ -1,5 +1,5 @@
 -- What a batch answers to its lines (docs/reference/programs.md).
-use Rattle.std.specs.Prelude.{◌≡◌, ◌≢◌, ◌≤◌, ◌⊎◌, ℕ, ◌++◌, List, [], ◌∷◌, length, All, Bool, true, false, IfSome, Option, Some, None, Result, Ok, Err, codes, map, string_bytes}
+use Rattle.std.specs.Prelude.{◌≡◌, ◌≢◌, ◌≤◌, ◌⊎◌, ℕ, ◌++◌, List, [], ◌∷◌, length, All, Bool, true, false, IfSome, MatchOption, Option, Some, None, Result, Ok, Err, codes, map, string_bytes}
 use Rattle.std.specs.List.{AllByRecursion, list_all}
 use Rattle.std.specs.Str.{IsUtf8}
 use Rattle.std.specs.Io.{StopsAt}
@@ -15,22 +15,30 @@ use Rattle.promql_ast.specs.Tree.{Tree}
 use Rattle.promql_run.specs.Ended.{AppendsBeginning}
 use Rattle.promql_json.specs.JsonParts.{list}
 use Rattle.promql_span.specs.QueryLimits.{IsLongOutput}
+use Rattle.promql_report.specs.declared.rejection.Reason.TheVariants.{Refused}
+use Rattle.promql_span.specs.Locations.{location_of}
 use Rattle.promql_span.specs.Targets.{for_rules}
+use Rattle.promql_span.specs.declared.target.Target.{Target}
 use Rattle.promql_span.specs.declared.limits.Limits.{Limits}
 use Rattle.promql_span.specs.declared.limits.LongOutput.{LongOutput}
+use Rattle.promql_target.specs.Refusals.{first_refusal}
+use Rattle.promql_target.specs.declared.refusal.Refusal.{Refusal}
 use Rattle.promql_lines.specs.EnforcedLines.{Enforces}
 use Rattle.promql_lines.specs.QueryErrors.{Prints, ReadsQuery, Then, query_error_number, rejected_in}
 use Rattle.promql_lines.specs.declared.mode.Mode.{Mode}
 use Rattle.promql_lines.specs.declared.mode.Mode.TheVariants as mode
+use Rattle.promql_lines.specs.declared.mode.Wanted.{Wanted}
+use Rattle.promql_lines.specs.declared.mode.Wanted.TheVariants as wanted
 use Rattle.promql_lines.specs.declared.query_error.QueryError.{QueryError}
 use Rattle.promql_lines.specs.declared.query_error.QueryError.TheVariants as error
 use Rattle.promql_run.specs.declared.format.Format.{Format}
-use Rattle.promql_run.specs.declared.format.Format.TheVariants.{Json}
+use Rattle.promql_run.specs.declared.format.Format.TheVariants.{Json, Line, Pretty}
 use Rattle.promql_lines.specs.declared.rejected_query.Expectation.{Expectation}
 use Rattle.promql_lines.specs.declared.rejected_query.RejectedQuery.{RejectedQuery}
 use Rattle.promql_lines.specs.declared.settings.Settings.{Settings}
 use Rattle.promql_lines.specs.Requests.{id_in, request_fault, requested, unknown_member}
 use Rattle.promql_lines.specs.Telling.{IsToldWith}
+use Rattle.promql_lines.specs.TimesText.{TellsTimes}
 
 -- ---- one line
 
@@ -40,8 +48,13 @@ value_text (mode.Plain Json) output = output
 value_text mode.Placed output = output
 value_text m output = compact_text (string output)
 
--- the query that a line asks for, the matcher to enforce if there is one, and the mode; or why it asks for none
-abbrev pub Asks : Format → Text → Result (Text × Option Text × Mode) QueryError → Type 0
+-- that of times is JSON, too
+abbrev pub wanted_text : Wanted → Text → Text
+wanted_text (wanted.Print m) output = value_text m output
+wanted_text (wanted.Times ts) output = output
+
+-- the query that a line asks for, the matcher to enforce if there is one, and what is wanted; or why it asks for none
+abbrev pub Asks : Format → Text → Result (Text × Option Text × Wanted) QueryError → Type 0
 Asks format line (Ok asked) = IsUtf8 line × (requested format line ≡ Some asked)
 Asks format line (Err error.NotUtf8) = ¬ IsUtf8 line
 Asks format line (Err (error.NotARequest fault)) =
@@ -59,18 +72,21 @@ HasShortLine limits u made =
 abbrev pub EnforcesShort : Limits → Text → Tree → Result Tree QueryError → Type 0
 EnforcesShort limits matcher t = Then (Enforces limits matcher t) (HasShortLine limits)
 
--- "Requests": what is printed of the query's tree, with the matcher in its selectors; no matcher is asked for beside places
-abbrev pub PrintsAsked : Limits → Text → Mode → Option Text → Tree → Result Text QueryError → Type 0
-PrintsAsked limits query (mode.Plain format) (Some matcher) t = Then (EnforcesShort limits matcher t) (Prints limits query (mode.Plain format))
-PrintsAsked limits query m matcher t = Prints limits query m t
+-- "Requests": what is printed of the query's tree, with the matcher in its selectors; no matcher is asked for beside places. An enforced tree
+-- is not that of the query, so it has no places
+abbrev pub PrintsAsked : Limits → Text → Wanted → Option Text → Tree → Result Text QueryError → Type 0
+PrintsAsked limits query (wanted.Print (mode.Plain format)) (Some matcher) t = Then (EnforcesShort limits matcher t) (Prints limits query (mode.Plain format))
+PrintsAsked limits query (wanted.Print m) matcher t = Prints limits query m t
+PrintsAsked limits query (wanted.Times ts) (Some matcher) t = Then (EnforcesShort limits matcher t) (TellsTimes None limits ts)
+PrintsAsked limits query (wanted.Times ts) None t = TellsTimes (Some query) limits ts t
 
 -- a target counts only where a matcher is enforced
 abbrev pub limits_of : Option Text → Limits → Limits
 limits_of None limits = for_rules limits
 limits_of (Some matcher) limits = limits
 
--- the same of a query, a matcher and a mode; where the query is rejected, it is told what was expected
-abbrev pub PrintsQuery : Limits → Text × Option Text × Mode → Result Text QueryError → Type 0
+-- the same of a query, a matcher and what is wanted; where the query is rejected, it is told what was expected
+abbrev pub PrintsQuery : Limits → Text × Option Text × Wanted → Result Text QueryError → Type 0
 PrintsQuery limits asked = Then (ReadsQuery (IsToldWith asked.0) (limits_of asked.1 limits) asked.0) (PrintsAsked limits asked.0 asked.2 asked.1)
 
 abbrev pub texts : List Text → Data
@@ -96,11 +112,33 @@ error_value code message (Some r) =
 abbrev pub IsErrorText : QueryError → Text → Type 0
 IsErrorText e printed = (message : Text) × (printed ≡ compact_text (error_value (query_error_number e) message (rejected_in e)))
 
+-- the printed query as one that its target rejects at this part
+abbrev pub refused_query : Target → Text → Refusal → RejectedQuery
+refused_query target printed f =
+    record { rejection = record { reason = Refused target f.kind; span = f.span; location = location_of printed f.span.start }; expectation = None }
+
+-- the error of the first part that the target of a printed query rejects, if it is known to reject one
+abbrev pub IsWarning : Target → Text → Text → Type 0
+IsWarning target printed warning =
+    MatchOption (first_refusal target printed) (warning ≡ [])
+    (λ f. (message : Text) × (warning ≡ codes ",\"warning\":" ++ compact_text (error_value 24 message (Some (refused_query target printed f)))))
+
+-- a query in which a matcher is enforced is printed to be sent on
+abbrev pub Warns : Limits → Wanted → Option Text → Text → Text → Type 0
+Warns limits (wanted.Print (mode.Plain (Pretty layout))) (Some matcher) printed warning = IsWarning limits.target printed warning
+Warns limits (wanted.Print (mode.Plain Line)) (Some matcher) printed warning = IsWarning limits.target printed warning
+Warns limits w matcher printed warning = warning ≡ []
+
+-- "Answers": what is wanted of the query, and a warning
+abbrev pub IsOkText : Limits → Option Text → Wanted → Text → Text → Type 0
+IsOkText limits matcher w output answer =
+    (warning : Text) × Warns limits w matcher output warning × (answer ≡ codes "{\"ok\":" ++ (wanted_text w output ++ (warning ++ codes "}")))
+
 -- an answer to the line, without an id, and whether it is an `ok`
 abbrev pub IsPlainAnswer : Settings → Text → Text → Bool → Type 0
 IsPlainAnswer settings line answer true =
-    (asked : Text × Option Text × Mode) × Asks settings.format line (Ok asked) × ((output : Text) × PrintsQuery settings.limits asked (Ok output)
-    × (answer ≡ codes "{\"ok\":" ++ (value_text asked.2 output ++ codes "}")))
+    (asked : Text × Option Text × Wanted) × Asks settings.format line (Ok asked)
+    × ((output : Text) × PrintsQuery settings.limits asked (Ok output) × IsOkText settings.limits asked.1 asked.2 output answer)
 IsPlainAnswer settings line answer false =
     (e : QueryError) × Then (Asks settings.format line) (PrintsQuery settings.limits) (Err e) × IsErrorText e answer
 

@@ -21,15 +21,19 @@ use Rattle.promql_run.specs.declared.format.Format.{Format}
 use Rattle.promql_run.specs.declared.format.Format.TheVariants as format
 use Rattle.promql_run.specs.declared.run.RunError.{RunError}
 use Rattle.promql_run.specs.declared.run.RunError.TheVariants as error
-use Rattle.promql_lines.specs.Batch.{Asks, EnforcesShort, IsLineAnswer, IsPlainAnswer, PrintsAsked, PrintsQuery, value_text}
+use Rattle.promql_when.specs.declared.times.Times.{Times}
+use Rattle.promql_lines.specs.Batch.{Asks, EnforcesShort, IsLineAnswer, IsOkText, IsPlainAnswer, PrintsAsked, PrintsQuery}
 use Rattle.promql_lines.specs.QueryErrors.{Prints, Then}
-use Rattle.promql_lines.specs.Requests.{is_member_name}
+use Rattle.promql_lines.specs.Requests.{is_known}
 use Rattle.promql_lines.specs.Telling.{Tells}
+use Rattle.promql_lines.specs.TimesText.{TellsTimes}
 use Rattle.promql_lines.specs.declared.batch.LineEnd.{LineEnd}
 use Rattle.promql_lines.specs.declared.batch.LineEnd.TheVariants.{Feed, Input}
-use Rattle.promql_lines.specs.declared.mode.Mode.{Mode}
 use Rattle.promql_lines.specs.declared.mode.Mode.TheVariants as mode
+use Rattle.promql_lines.specs.declared.mode.Wanted.{Wanted}
+use Rattle.promql_lines.specs.declared.mode.Wanted.TheVariants.{Print, Times as AtTimes}
 use Rattle.promql_lines.specs.declared.query_error.QueryError.{QueryError}
+use Rattle.promql_lines.specs.declared.request.Names.{Names}
 use Rattle.promql_lines.specs.declared.rejected_query.Expectation.{Expectation}
 use Rattle.promql_lines.specs.declared.settings.Settings.{Settings}
 
@@ -74,15 +78,15 @@ abbrev pub FailsWith : Settings → Text → QueryError → Type 0
 FailsWith settings line e = Then (Asks settings.format line) (PrintsQuery settings.limits) (Err e)
 
 -- the answer with a text that is printed so
-abbrev pub IsAnswerWith : Mode → (Result Text QueryError → Type 0) → Text → Type 0
-IsAnswerWith m IsPrint answer = (output : Text) × IsPrint (Ok output) × (answer ≡ codes "{\"ok\":" ++ (value_text m output ++ codes "}"))
+abbrev pub IsAnswerWith : Limits → Option Text → Wanted → (Result Text QueryError → Type 0) → Text → Type 0
+IsAnswerWith limits matcher w IsPrint answer = (output : Text) × IsPrint (Ok output) × IsOkText limits matcher w output answer
 
 -- what is printed of a tree in a format
 abbrev pub PrintsFormat : Limits → Format → Tree → Result Text QueryError → Type 0
 PrintsFormat limits format = Prints limits [] (mode.Plain format)
 
-abbrev pub IsTreeAnswer : Limits → Format → Tree → Text → Type 0
-IsTreeAnswer limits format t = IsAnswerWith (mode.Plain format) (PrintsFormat limits format t)
+abbrev pub IsTreeAnswer : Limits → Option Text → Format → Tree → Text → Type 0
+IsTreeAnswer limits matcher format t = IsAnswerWith limits matcher (Print (mode.Plain format)) (PrintsFormat limits format t)
 
 -- the tree with a matcher in its selectors, or as it is
 abbrev pub IsAsked : Limits → Option Text → Tree → Result Tree QueryError → Type 0
@@ -94,19 +98,29 @@ abbrev pub IsAskedPrint : Limits → Option Text → Format → Tree → Result 
 IsAskedPrint limits matcher format t = Then (IsAsked limits matcher t) (PrintsFormat limits format)
 
 abbrev pub IsAskedAnswer : Limits → Option Text → Format → Tree → Text → Type 0
-IsAskedAnswer limits matcher format t = IsAnswerWith (mode.Plain format) (IsAskedPrint limits matcher format t)
+IsAskedAnswer limits matcher format t = IsAnswerWith limits matcher (Print (mode.Plain format)) (IsAskedPrint limits matcher format t)
 
 -- the answer with the JSON form of this query's tree with places
 abbrev pub IsPlacedAnswer : Limits → Text → Tree → Text → Type 0
-IsPlacedAnswer limits query t = IsAnswerWith mode.Placed (Prints limits query mode.Placed t)
+IsPlacedAnswer limits query t = IsAnswerWith limits None (Print mode.Placed) (Prints limits query mode.Placed t)
 
--- the answer in a mode
-abbrev pub IsModeAnswer : Limits → Text → Option Text → Mode → Tree → Text → Type 0
-IsModeAnswer limits query matcher m t = IsAnswerWith m (PrintsAsked limits query m matcher t)
+-- the answer that tells when a tree reads, of a query or with a matcher in its selectors
+abbrev pub IsToldAnswer : Option Text → Limits → Times → Tree → Text → Type 0
+IsToldAnswer query limits ts t = IsAnswerWith limits None (AtTimes ts) (TellsTimes query limits ts t)
+
+abbrev pub TellsEnforced : Limits → Text → Times → Tree → Result Text QueryError → Type 0
+TellsEnforced limits matcher ts t = Then (EnforcesShort limits matcher t) (TellsTimes None limits ts)
+
+abbrev pub IsEnforcedToldAnswer : Limits → Text → Times → Tree → Text → Type 0
+IsEnforcedToldAnswer limits matcher ts t = IsAnswerWith limits (Some matcher) (AtTimes ts) (TellsEnforced limits matcher ts t)
+
+-- the answer with what is wanted
+abbrev pub IsWantedAnswer : Limits → Text → Option Text → Wanted → Tree → Text → Type 0
+IsWantedAnswer limits query matcher w t = IsAnswerWith limits matcher w (PrintsAsked limits query w matcher t)
 
 -- the answer to a query
-abbrev pub IsQueryAnswer : Limits → Text → Text → Option Text → Mode → Type 0
-IsQueryAnswer limits answer query matcher m = IsAnswerWith m (PrintsQuery limits (query, matcher, m)) answer
+abbrev pub IsQueryAnswer : Limits → Text → Text → Option Text → Wanted → Type 0
+IsQueryAnswer limits answer query matcher w = IsAnswerWith limits matcher w (PrintsQuery limits (query, matcher, w)) answer
 
 -- the text is the value as JSON, without a space
 abbrev pub IsJsonOf : Data → Text → Type 0
@@ -129,10 +143,10 @@ abbrev pub IsFormatOf : Format → Tree → Text → Type 0
 IsFormatOf (format.Pretty layout) t s = (format_text (format.Pretty layout) t ≡ Ok s) × Means s t
 IsFormatOf f t s = format_text f t ≡ Ok s
 
--- the first of these names that no request has
-abbrev pub first_unknown : List Text → Option Text
-first_unknown [] = None
-first_unknown (key ∷ keys) = if is_member_name key then first_unknown keys else Some key
+-- the first of these that is no such name
+abbrev pub first_unknown : Names → List Text → Option Text
+first_unknown known [] = None
+first_unknown known (key ∷ keys) = if is_known known key then first_unknown known keys else Some key
 
 abbrev pub IsReadingError : RunError → Type 0
 IsReadingError error.Memory = Unit {0}

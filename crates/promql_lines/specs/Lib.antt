@@ -10,5 +10,7 @@ pub mod Requests
 pub mod SelectorPlaces
 pub mod TreeTexts
 pub mod Telling
+pub mod TimesSteps
+pub mod TimesText
 pub mod WalkedPlaces
 pub mod WindowsText

@@ -14,7 +14,9 @@ ghost use Rattle.promql_syntax.specs.ParseAnswers.{IsAnswerTo};
 ghost use Rattle.promql_syntax.specs.declared.parser.TheConstants.{MAX_DEPTH};
 ghost use Rattle.promql_run.specs.Extensions.{HasNoExtension};
 ghost use Rattle.promql_run.specs.declared.format.Format as formats;
-ghost use Rattle.promql_lines.specs.BatchSteps.{FailsWith, IsAsked, IsAskedAnswer, IsAskedPrint, IsModeAnswer, IsOkLine, IsPlacedAnswer, IsQueryAnswer, IsTreeAnswer, PrintsFormat};
+ghost use Rattle.promql_lines.specs.BatchSteps.{FailsWith, IsAsked, IsAskedAnswer, IsAskedPrint, IsEnforcedToldAnswer, IsOkLine, IsPlacedAnswer, IsQueryAnswer, IsToldAnswer, IsTreeAnswer, IsWantedAnswer, PrintsFormat, TellsEnforced};
+ghost use Rattle.promql_lines.specs.TimesSteps.{IsOfTree};
+ghost use Rattle.promql_lines.specs.TimesText.{TellsTimes};
 ghost use Rattle.promql_lines.specs.Batch.{HasShortLine, IsErrorText, IsLineAnswer, IsPlainAnswer, PrintsAsked, PrintsQuery, error_value, limits_of};
 ghost use Rattle.promql_lines.specs.QueryErrors.{Prints, ReadsQuery, query_error_number, rejected_in};
 ghost use Rattle.promql_lines.specs.Telling.{IsToldWith};
@@ -25,21 +27,23 @@ ghost use Rattle.promql_report.specs.Rejecting.{IsRead};
 use crate::answer_text::{answer_of_json, answer_within};
 use crate::enforced_line::{NotEnforced, enforced_within};
 use crate::matcher_reason::error_message;
-use crate::mode::Mode;
+use crate::mode::{Mode, Wanted};
 use crate::placed_text::placed_text;
 use crate::query_error::QueryError;
 use crate::quoted_query::quoted_query;
 use crate::rejected_query::RejectedQuery;
-use crate::request::{matcher_in, mode_in, query_in, unknown_in};
+use crate::request::{matcher_in, query_in, unknown_in, wanted_in};
 use crate::request_fault::{RequestFault, fault_in};
 use crate::request_id::answer_with_id;
 use crate::settings::Settings;
+use crate::times_text::times_text;
 use promql_ast::{Expr, drop_expr};
 use promql_json::JsonError;
 use promql_report::rejection::read_query;
 use promql_run::format::Format;
 use promql_run::rendering::shown_text;
 use promql_span::limits::{Limits, LongOutput};
+use promql_when::Times;
 use serde_json::{Category, Value, json};
 use std::alloc::{AllocError, Global};
 
@@ -111,20 +115,22 @@ fn read_tree(alloc: Global, limits: &Limits, query: &str) -> Result<Expr, QueryE
     }
 }
 
-/// The answer with what is printed of a tree in a format.
+/// The answer with what is printed in a format of a tree in which this matcher was enforced, if there is one.
 fn answer_tree(
     alloc: Global,
     limits: &Limits,
     format: Format,
+    matcher: Option<&str>,
     expr: &Expr,
 ) -> Result<String, QueryError>
     requires low { height (tree_of expr.now) ≤ MAX_DEPTH }
     requires plain { HasNoExtension (tree_of expr.now) }
-    ensures ok { IfOk result (λ s. IsTreeAnswer limits.now format (tree_of expr.now) (string_bytes s)) }
+    ensures ok { IfOk result (λ s. IsTreeAnswer limits.now (option_map (λ s. s.now) matcher.entry) format
+        (tree_of expr.now) (string_bytes s)) }
     ensures err { IfErr result (λ e. PrintsFormat limits.now format (tree_of expr.now) (Err e)) }
 {
     match shown_text(alloc, format, expr) {
-        Ok(Some(text)) => answer_within(alloc, limits, format, text.as_str()),
+        Ok(Some(text)) => answer_within(alloc, limits, format, matcher, text.as_str()),
         Ok(None) => Err(QueryError::NoForm(JsonError::NumberTooWide)),
         Err(_) => Err(QueryError::Memory),
     }
@@ -146,7 +152,7 @@ fn answer_asked(
         (tree_of expr) (Err e)) }
 {
     let expr = enforced(alloc, limits, expr, matcher)?;
-    let answer = answer_tree(alloc, limits, format, &expr);
+    let answer = answer_tree(alloc, limits, format, matcher, &expr);
     drop_expr(expr);
     answer
 }
@@ -200,14 +206,97 @@ fn answer_mode(
     requires low { height (tree_of expr) ≤ MAX_DEPTH }
     requires plain { HasNoExtension (tree_of expr) }
     requires answer { IsAnswerTo query.now (Ok (tree_of expr)) }
-    ensures ok { IfOk result (λ s. IsModeAnswer limits.now query.now (option_map (λ s. s.now) matcher.entry) mode
-        (tree_of expr) (string_bytes s)) }
-    ensures err { IfErr result (λ e. PrintsAsked limits.now query.now mode (option_map (λ s. s.now) matcher.entry)
-        (tree_of expr) (Err e)) }
+    ensures ok { IfOk result (λ s. IsWantedAnswer limits.now query.now (option_map (λ s. s.now) matcher.entry)
+        (Wanted.Print mode) (tree_of expr) (string_bytes s)) }
+    ensures err { IfErr result (λ e. PrintsAsked limits.now query.now (Wanted.Print mode)
+        (option_map (λ s. s.now) matcher.entry) (tree_of expr) (Err e)) }
 {
     match mode {
         Mode::Plain(format) => answer_asked(alloc, limits, format, expr, matcher),
         Mode::Placed => answer_placed(alloc, limits, query, expr),
+    }
+}
+
+/// The answer that tells when an expression reads, which is that of the query, if there is one.
+fn answer_told(
+    alloc: Global,
+    limits: &Limits,
+    query: Option<&str>,
+    times: &Times,
+    expr: &Expr,
+) -> Result<String, QueryError>
+    requires { IsOfTree (option_map (λ s. s.now) query) (tree_of expr.now) }
+    ensures ok { IfOk result (λ s. IsToldAnswer (option_map (λ s. s.now) query.entry) limits.now times.now
+        (tree_of expr.now) (string_bytes s)) }
+    ensures err { IfErr result (λ e. TellsTimes (option_map (λ s. s.now) query.entry) limits.now times.now
+        (tree_of expr.now) (Err e)) }
+{
+    match times_text(alloc, limits, query, times, expr) {
+        Ok(text) => match answer_of_json(alloc, text.as_str()) {
+            Ok(answer) => Ok(answer),
+            Err(_) => Err(QueryError::Memory),
+        },
+        Err(error) => Err(error),
+    }
+}
+
+/// The answer that tells when a query's tree reads.
+fn answer_times(
+    alloc: Global,
+    limits: &Limits,
+    query: &str,
+    times: &Times,
+    expr: Expr,
+) -> Result<String, QueryError>
+    requires { IsAnswerTo query.now (Ok (tree_of expr)) }
+    ensures ok { IfOk result (λ s. IsToldAnswer (Some query.now) limits.now times.now (tree_of expr) (string_bytes s)) }
+    ensures err { IfErr result (λ e. TellsTimes (Some query.now) limits.now times.now (tree_of expr) (Err e)) }
+{
+    let answer = answer_told(alloc, limits, Some(query), times, &expr);
+    drop_expr(expr);
+    answer
+}
+
+/// The answer that tells when an expression reads with the matcher of the text in every selector.
+fn answer_enforced_times(
+    alloc: Global,
+    limits: &Limits,
+    times: &Times,
+    expr: Expr,
+    matcher: &str,
+) -> Result<String, QueryError>
+    ensures ok { IfOk result (λ s. IsEnforcedToldAnswer limits.now matcher.now times.now (tree_of expr) (string_bytes s)) }
+    ensures err { IfErr result (λ e. TellsEnforced limits.now matcher.now times.now (tree_of expr) (Err e)) }
+{
+    let expr = enforced(alloc, limits, expr, Some(matcher))?;
+    let answer = answer_told(alloc, limits, None, times, &expr);
+    drop_expr(expr);
+    answer
+}
+
+/// The answer with what is wanted of a query's tree, with a matcher in its selectors if there is one.
+fn answer_wanted(
+    alloc: Global,
+    limits: &Limits,
+    wanted: Wanted,
+    query: &str,
+    expr: Expr,
+    matcher: Option<&str>,
+) -> Result<String, QueryError>
+    requires low { height (tree_of expr) ≤ MAX_DEPTH }
+    requires plain { HasNoExtension (tree_of expr) }
+    requires answer { IsAnswerTo query.now (Ok (tree_of expr)) }
+    ensures ok { IfOk result (λ s. IsWantedAnswer limits.now query.now (option_map (λ s. s.now) matcher.entry) wanted
+        (tree_of expr) (string_bytes s)) }
+    ensures err { IfErr result (λ e. PrintsAsked limits.now query.now wanted (option_map (λ s. s.now) matcher.entry)
+        (tree_of expr) (Err e)) }
+{
+    match (wanted, matcher) {
+        (Wanted::Print(mode), matcher) => answer_mode(alloc, limits, mode, query, expr, matcher),
+        (Wanted::Times(times), None) => answer_times(alloc, limits, query, &times, expr),
+        (Wanted::Times(times), Some(matcher)) => {
+            answer_enforced_times(alloc, limits, &times, expr, matcher)
+        }
     }
 }
 
@@ -221,21 +310,21 @@ fn limits_of(matcher: Option<&str>, limits: &Limits) -> Limits
     }
 }
 
-/// The answer to a query in a mode, with a matcher in its selectors if there is one.
+/// The answer to a query of which this is wanted, with a matcher in its selectors if there is one.
 fn answer_query(
     alloc: Global,
     limits: &Limits,
-    mode: Mode,
+    wanted: Wanted,
     query: &str,
     matcher: Option<&str>,
 ) -> Result<String, QueryError>
     ensures ok { IfOk result (λ s.
-        IsQueryAnswer limits.now (string_bytes s) query.now (option_map (λ s. s.now) matcher.entry) mode) }
+        IsQueryAnswer limits.now (string_bytes s) query.now (option_map (λ s. s.now) matcher.entry) wanted) }
     ensures err { IfErr result (λ e.
-        PrintsQuery limits.now (query.now, option_map (λ s. s.now) matcher.entry, mode) (Err e)) }
+        PrintsQuery limits.now (query.now, option_map (λ s. s.now) matcher.entry, wanted) (Err e)) }
 {
     match read_tree(alloc, &limits_of(matcher, limits), query) {
-        Ok(expr) => answer_mode(alloc, limits, mode, query, expr, matcher),
+        Ok(expr) => answer_wanted(alloc, limits, wanted, query, expr, matcher),
         Err(error) => Err(error),
     }
 }
@@ -264,10 +353,10 @@ fn answer_value(alloc: Global, settings: &Settings, asked: &Value) -> Result<Str
     let Some(query) = query_in(asked) else {
         return Err(QueryError::NotARequest(fault_in(settings.format, asked)));
     };
-    let Some(mode) = mode_in(settings.format, asked) else {
+    let Some(wanted) = wanted_in(settings.format, asked) else {
         return Err(QueryError::NotARequest(fault_in(settings.format, asked)));
     };
-    answer_query(alloc, &settings.limits, mode, query, matcher_in(asked))
+    answer_query(alloc, &settings.limits, wanted, query, matcher_in(asked))
 }
 
 /// An object of an error's number and its message.
@@ -363,8 +452,8 @@ fn answer_text(alloc: Global, settings: &Settings, line: &str) -> Result<LineAns
     let Some(query) = quoted_query(alloc, line)? else {
         return answer_json(alloc, settings, line);
     };
-    let mode = Mode::Plain(settings.format);
-    let answer = answer_query(alloc, &settings.limits, mode, query.as_str(), None);
+    let wanted = Wanted::Print(Mode::Plain(settings.format));
+    let answer = answer_query(alloc, &settings.limits, wanted, query.as_str(), None);
     plain_answer(alloc, answer, None)
 }
 

@@ -8,7 +8,8 @@ ghost use Rattle.std.specs.Option.{option_map_or};
 ghost use Rattle.promql_lines.specs.BatchSteps.{first_unknown};
 ghost use Rattle.promql_lines.specs.Requests as spec;
 
-use crate::mode::Mode;
+use crate::mode::{Mode, Wanted};
+use crate::request_times::{has_no_mode, times_in};
 use promql_run::format::{Format, Layout};
 use serde_json::{Map, Value};
 
@@ -95,22 +96,50 @@ pub(crate) fn format_with(
     }
 }
 
+/// What has members of known names.
+#[derive(Clone, Copy, PartialEq, Eq, Debug)]
+pub(crate) enum Names {
+    /// A request.
+    OfRequest,
+    /// Its member `times`.
+    OfTimes,
+}
+
 /// Whether a request may have a member of this name.
 fn is_member_name(key: &str) -> bool
     ensures { result ≡ spec.is_member_name key.now }
 {
     matches!(
         key,
-        "query" | "mode" | "level" | "width" | "enforce" | "places" | "id"
+        "query" | "mode" | "level" | "width" | "enforce" | "places" | "times" | "id"
     )
 }
 
-/// The first member that no request has, by the order of the names.
-fn unknown_name(members: &Map<String, Value>) -> Option<&str>
-    ensures { option_map (λ s. s.now) result ≡ first_unknown (map string_bytes (keys members.now)) }
+/// Whether `times` may have a member of this name.
+fn is_time_name(key: &str) -> bool
+    ensures { result ≡ spec.is_time_name key.now }
+{
+    matches!(
+        key,
+        "start" | "end" | "time" | "step" | "lookback" | "default_step" | "left_open"
+    )
+}
+
+fn is_known(names: Names, key: &str) -> bool
+    ensures { result ≡ spec.is_known names key.now }
+{
+    match names {
+        Names::OfRequest => is_member_name(key),
+        Names::OfTimes => is_time_name(key),
+    }
+}
+
+/// The first member with another name, by the order of the names.
+pub(crate) fn unknown_name(names: Names, members: &Map<String, Value>) -> Option<&str>
+    ensures { option_map (λ s. s.now) result ≡ first_unknown names (map string_bytes (keys members.now)) }
 {
     for key in members.keys() {
-        if !is_member_name(key.as_str()) {
+        if !is_known(names, key.as_str()) {
             return Some(key.as_str());
         }
     }
@@ -122,13 +151,13 @@ pub fn unknown_in(value: &Value) -> Option<&str>
     ensures { option_map (λ s. s.now) result ≡ spec.unknown_in (view value.now) }
 {
     match value {
-        Value::Object(members) => unknown_name(members),
+        Value::Object(members) => unknown_name(Names::OfRequest, members),
         _ => None,
     }
 }
 
 /// Whether the value has no member that no request has.
-fn has_known_members(value: &Value) -> bool
+pub(crate) fn has_known_members(value: &Value) -> bool
     ensures { result ≡ is_none (spec.unknown_in (view value.now)) }
 {
     !unknown_in(value).is_some()
@@ -158,9 +187,31 @@ fn mode_with(places: Option<bool>, matcher: Option<&str>, format: Format) -> Opt
 }
 
 /// How the query of a line is printed where the command asks for this format; `None` where its value does not tell.
-pub fn mode_in(asked: Format, value: &Value) -> Option<Mode>
+fn mode_in(asked: Format, value: &Value) -> Option<Mode>
     ensures { result ≡ spec.mode_in asked (view value.now) }
 {
     let format = format_in(asked, value)?;
     mode_with(places_in(value), matcher_in(value), format)
+}
+
+/// What a line wants that asks about these times; `None` where its value does not tell.
+fn timed_in(value: &Value, times: &Value) -> Option<Wanted>
+    ensures { result ≡ spec.timed_in (view value.now) (view times.now) }
+{
+    if has_known_members(value) && is_text(value.get("enforce")) && has_no_mode(value) {
+        let times = times_in(times)?;
+        Some(Wanted::Times(times))
+    } else {
+        None
+    }
+}
+
+/// What a line wants of its query where the command asks for this format; `None` where its value does not tell.
+pub fn wanted_in(asked: Format, value: &Value) -> Option<Wanted>
+    ensures { result ≡ spec.wanted_in asked (view value.now) }
+{
+    match value.get("times") {
+        Some(times) => timed_in(value, times),
+        None => mode_in(asked, value).map(|mode| Wanted::Print(mode)),
+    }
 }

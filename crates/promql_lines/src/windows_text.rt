@@ -37,7 +37,7 @@ pub fn selector_text(alloc: Global, selector: Option<&VectorSelector>) -> Result
 }
 
 /// A time; null where there is none.
-fn time_value(time: Option<i64>) -> Value
+pub(crate) fn time_value(time: Option<i64>) -> Value
     ensures { view result ≡ or_null whole time }
 {
     match time {
@@ -125,7 +125,7 @@ fn after_first(places: &[Option<Span>]) -> &[Option<Span>]
 }
 
 /// A list of these.
-fn windows_value(
+pub(crate) fn windows_value(
     alloc: Global,
     found: &[SelectorWindow<'_>],
     places: &[Option<Span>],

@@ -1,17 +1,21 @@
-use Rattle.std.proofs.Common.{◌++◌, ap, sym, ◌∙◌, codes}
+use Rattle.std.proofs.Common.{option_map, string_bytes, subst, sym}
 use Rattle.std.proofs.lemmas.Result.{IfOk-weaker}
-use Rattle.promql_lines.specs.Batch.{value_text}
+use Rattle.promql_lines.specs.Batch.{IsOkText}
 use Rattle.promql_lines.specs.declared.mode.Mode.TheVariants.{Plain}
+use Rattle.promql_lines.specs.declared.mode.Wanted.TheVariants.{Print}
+use Rattle.promql_lines.proofs.WarnedAnswers.{unwarned}
 use Rattle.promql_lines.proofs.answer_text.ok_answer.Goals as goal
 
-pub returns-in-Pretty : goal.returns-in-Pretty
-returns-in-Pretty c =
-    IfOk-weaker c.answer_of_text.result _ _ (λ s is. is ∙ ap (λ f. codes "{\"ok\":" ++ (value_text (Plain f) c.args.shown.now ++ codes "}")) (sym c.in-Pretty.is)) c.answer_of_text.ensures
+pub returns-in-None : goal.returns-in-None
+returns-in-None c =
+    let limits = c.args.limits.now in let shown = c.args.shown.now in
+    IfOk-weaker c.shown_answer.result _ _
+    (λ s is. subst (λ m. IsOkText limits (option_map (λ s. s.now) m) (Print (Plain c.args.format)) shown (string_bytes s)) (sym c.in-None.is) (unwarned limits c.args.format shown (string_bytes s) is))
+    c.shown_answer.ensures
 
-pub returns-in-Line : goal.returns-in-Line
-returns-in-Line c =
-    IfOk-weaker c.answer_of_text-in-Line.result _ _ (λ s is. is ∙ ap (λ f. codes "{\"ok\":" ++ (value_text (Plain f) c.args.shown.now ++ codes "}")) (sym c.in-Line.is)) c.answer_of_text-in-Line.ensures
-
-pub returns-in-Json : goal.returns-in-Json
-returns-in-Json c =
-    IfOk-weaker c.answer_of_json.result _ _ (λ s is. is ∙ ap (λ f. codes "{\"ok\":" ++ (value_text (Plain f) c.args.shown.now ++ codes "}")) (sym c.in-Json.is)) c.answer_of_json.ensures
+pub returns-in-Some : goal.returns-in-Some
+returns-in-Some c =
+    let limits = c.args.limits.now in let shown = c.args.shown.now in
+    IfOk-weaker c.enforced_answer.result _ _
+    (λ s has. subst (λ m. IsOkText limits (option_map (λ s. s.now) m) (Print (Plain c.args.format)) shown (string_bytes s)) (sym c.in-Some.is) has)
+    (c.enforced_answer.ensures c.in-Some.field-0.now)

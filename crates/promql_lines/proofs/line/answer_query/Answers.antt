@@ -8,24 +8,24 @@ use Rattle.promql_lines.specs.Telling.{IsToldWith}
 use Rattle.promql_lines.proofs.LineAnswers.{query_answers, query_fails}
 use Rattle.promql_lines.proofs.line.answer_query.Goals as goal
 
-pub answer_mode-requires-clause-low : goal.answer_mode-requires-clause-low
-answer_mode-requires-clause-low c = c.in-Ok.ensures.ok.1.low (tree_of c.in-Ok.expr) refl
+pub answer_wanted-requires-clause-low : goal.answer_wanted-requires-clause-low
+answer_wanted-requires-clause-low c = c.in-Ok.ensures.ok.1.low (tree_of c.in-Ok.expr) refl
 
-pub answer_mode-requires-clause-plain : goal.answer_mode-requires-clause-plain
-answer_mode-requires-clause-plain c = answers_are_plain c.args.query.now (tree_of c.in-Ok.expr) c.in-Ok.ensures.ok.1
+pub answer_wanted-requires-clause-plain : goal.answer_wanted-requires-clause-plain
+answer_wanted-requires-clause-plain c = answers_are_plain c.args.query.now (tree_of c.in-Ok.expr) c.in-Ok.ensures.ok.1
 
-pub answer_mode-requires-clause-answer : goal.answer_mode-requires-clause-answer
-answer_mode-requires-clause-answer c = c.in-Ok.ensures.ok.1
+pub answer_wanted-requires-clause-answer : goal.answer_wanted-requires-clause-answer
+answer_wanted-requires-clause-answer c = c.in-Ok.ensures.ok.1
 
 pub returns-in-Ok-clause-ok : goal.returns-in-Ok-clause-ok
 returns-in-Ok-clause-ok c =
-    query_answers c.answer_mode.result c.args.limits.now c.args.query.now (option_map (λ s. s.now) c.args.matcher) c.args.mode (tree_of c.in-Ok.expr)
-    (subst (λ limits. IsRead limits c.args.query.now (tree_of c.in-Ok.expr)) c.limits_of.ensures c.in-Ok.ensures.ok) c.answer_mode.ensures.ok
+    query_answers c.answer_wanted.result c.args.limits.now c.args.query.now (option_map (λ s. s.now) c.args.matcher) c.args.wanted (tree_of c.in-Ok.expr)
+    (subst (λ limits. IsRead limits c.args.query.now (tree_of c.in-Ok.expr)) c.limits_of.ensures c.in-Ok.ensures.ok) c.answer_wanted.ensures.ok
 
 pub returns-in-Ok-clause-err : goal.returns-in-Ok-clause-err
 returns-in-Ok-clause-err c =
-    query_fails c.answer_mode.result c.args.limits.now c.args.query.now (option_map (λ s. s.now) c.args.matcher) c.args.mode (tree_of c.in-Ok.expr)
-    (subst (λ limits. IsRead limits c.args.query.now (tree_of c.in-Ok.expr)) c.limits_of.ensures c.in-Ok.ensures.ok) c.answer_mode.ensures.err
+    query_fails c.answer_wanted.result c.args.limits.now c.args.query.now (option_map (λ s. s.now) c.args.matcher) c.args.wanted (tree_of c.in-Ok.expr)
+    (subst (λ limits. IsRead limits c.args.query.now (tree_of c.in-Ok.expr)) c.limits_of.ensures c.in-Ok.ensures.ok) c.answer_wanted.ensures.err
 
 pub returns-in-Err-clause-err : goal.returns-in-Err-clause-err
 returns-in-Err-clause-err c =

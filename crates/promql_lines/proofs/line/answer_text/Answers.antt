@@ -4,6 +4,7 @@ use Rattle.serde_json.specs.Data.{string}
 use Rattle.promql_lines.proofs.AnswerIds.{none_in_quotes, without_id}
 use Rattle.promql_lines.proofs.LineAnswers.{answered_line, asks_in_quotes, failing_in_vain}
 use Rattle.promql_lines.specs.declared.mode.Mode.TheVariants.{Plain}
+use Rattle.promql_lines.specs.declared.mode.Wanted.TheVariants.{Print}
 use Rattle.promql_lines.proofs.line.answer_text.Goals as goal
 
 pub returns : goal.returns
@@ -12,5 +13,5 @@ returns c =
     let quoted = rw c.in-Some.is at c.in_ok-query.ensures in
     let asks = asks_in_quotes format line query (quoted ∙ ap (λ q. Some (string q)) (sym c.as_str.ensures.value)) in
     IfOk-weaker c.plain_answer.result _ _ (λ a plain. without_id settings line (string_bytes a.text) a.is_ok (none_in_quotes line (string_bytes c.in-Some.query) c.utf8.line quoted) plain)
-    (c.plain_answer.ensures settings line (answered_line c.answer_query-answer.result settings line query None (Plain format) c.utf8.line asks c.answer_query-answer.ensures.ok)
-    (failing_in_vain c.answer_query-answer.result settings line query None (Plain format) c.utf8.line asks c.answer_query-answer.ensures.err))
+    (c.plain_answer.ensures settings line (answered_line c.answer_query-answer.result settings line query None (Print (Plain format)) c.utf8.line asks c.answer_query-answer.ensures.ok)
+    (failing_in_vain c.answer_query-answer.result settings line query None (Print (Plain format)) c.utf8.line asks c.answer_query-answer.ensures.err))

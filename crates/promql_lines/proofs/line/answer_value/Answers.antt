@@ -11,14 +11,14 @@ returns-in-Some-clause-err c = λ line utf8 read.
 
 pub returns-clause-ok : goal.returns-clause-ok
 returns-clause-ok c = λ line utf8 read.
-    let settings = c.args.settings.now in let query = c.in-Some-query_in.query.now in let matcher = option_map (λ s. s.now) c.matcher_in.result in let mode = c.in-Some-mode_in.mode in
-    answered_line c.answer_query.result settings line query matcher mode utf8
-    (asks_by_value settings.format line query matcher mode (view c.args.asked.now) read c.in-Some-query_in.ensures c.matcher_in.ensures c.in-Some-mode_in.ensures)
+    let settings = c.args.settings.now in let query = c.in-Some-query_in.query.now in let matcher = option_map (λ s. s.now) c.matcher_in.result in let wanted = c.in-Some-wanted_in.wanted in
+    answered_line c.answer_query.result settings line query matcher wanted utf8
+    (asks_by_value settings.format line query matcher wanted (view c.args.asked.now) read c.in-Some-query_in.ensures c.matcher_in.ensures c.in-Some-wanted_in.ensures)
     c.answer_query.ensures.ok
 
 pub returns-clause-err : goal.returns-clause-err
 returns-clause-err c = λ line utf8 read.
-    let settings = c.args.settings.now in let query = c.in-Some-query_in.query.now in let matcher = option_map (λ s. s.now) c.matcher_in.result in let mode = c.in-Some-mode_in.mode in
-    failing_in_vain c.answer_query.result settings line query matcher mode utf8
-    (asks_by_value settings.format line query matcher mode (view c.args.asked.now) read c.in-Some-query_in.ensures c.matcher_in.ensures c.in-Some-mode_in.ensures)
+    let settings = c.args.settings.now in let query = c.in-Some-query_in.query.now in let matcher = option_map (λ s. s.now) c.matcher_in.result in let wanted = c.in-Some-wanted_in.wanted in
+    failing_in_vain c.answer_query.result settings line query matcher wanted utf8
+    (asks_by_value settings.format line query matcher wanted (view c.args.asked.now) read c.in-Some-query_in.ensures c.matcher_in.ensures c.in-Some-wanted_in.ensures)
     c.answer_query.ensures.err
