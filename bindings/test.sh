@@ -389,7 +389,8 @@ test_python() {
     if has "${CHROMIUM:-chromium}" 'the page in Chromium'; then add 'the page in Chromium' unit_tests "$here/python" browser.py; fi
     add 'rows for Python, and again in eight threads' in_python "$here/python" "$here/rows.py" python 8
     PROMQL_EXTENSION='' add 'rows for Python by ctypes' in_python "$here/python" "$here/rows.py" python
-    try 'the tables of functions' python3 "$here/schema/write_functions.py" --check
+    try 'the tables of targets' python3 "$here/schema/write_tables.py" --check
+    add 'what the tables of targets say' in_python "$here/python" "$here/schema/test_tables.py"
     add 'trees of the rows for Python' in_python "$here/python" "$here/trees.py" rows
     add 'changed trees for Python' in_python "$here/python" "$here/trees.py" changed 10000 1
     add 'queries with comments, formatted' python3 "$root/bench/format/formatted.py" --made 100000
@@ -432,6 +433,7 @@ test_scripts() {
     for script in checks.py count_definitions list_edits manuals prove test_expected test_vendor vendor; do
         MYPYPATH=$root/bin try "the types of bin/$script" mypy --strict --cache-dir "$work/mypy" "$root/bin/$script"
     done
+    MYPYPATH=$here/schema try 'the types of what writes tables' mypy --strict --cache-dir "$work/mypy" "$here/schema/write_tables.py"
 }
 
 # ---- Rust
@@ -706,6 +708,7 @@ test_prometheus() {
     add 'classes of meanings before a Prometheus' in_python "$here/python" "$root/bench/targets/meanings.py" --made 300 --changed 200
     add 'when queries read, before a Prometheus' in_python "$here/python" "$root/bench/when/compare.py" --count 300
     add 'kinds of verdicts before a Prometheus' in_python "$here/python" "$root/bench/targets/verdicts.py" --count 5000
+    add 'the tables of targets before a Prometheus' in_python "$here/python" "$root/bench/targets/table_rows.py"
     if python=$(python_with_yaml); then
         python=$python add 'selectors and metrics before a Prometheus' in_python "$here/python" "$here/live.py"
     else

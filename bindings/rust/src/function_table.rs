@@ -1,4 +1,4 @@
-//! The functions of the language. Made by bindings/schema/write_functions.py of promql.schema.json: do not edit.
+//! The functions of the language. Made by bindings/schema/write_tables.py of targets/: do not edit.
 
 use crate::function::Function;
 use crate::function::ValueType::{self, Matrix, Scalar, String, Vector};

@@ -13,6 +13,7 @@ from typing import Callable, Iterable, Iterator, List, Optional
 import promql
 
 from . import alert_rules, counter_rules, label_rules, matcher_rules, operator_rules, style_rules, target_rules
+from ._target_tables import GONE
 from .comments import Ignored, ignored_in
 from .findings import Finding, Fix, Severity, Span, TextEdit, Tree
 from .fixes import FixChecker, all_fixed
@@ -29,12 +30,6 @@ _UNCOMPARED = "its patterns and values are too large together to be compared: P1
 _LONGEST = 500
 # Whether it is to be said what was expected in a query that is rejected, which is read again for it.
 Explains = Callable[[promql.QueryError], bool]
-# Functions that are gone, and what is there for them.
-_GONE = {
-    "holt_winters": "it is `double_exponential_smoothing` since Prometheus 3.0",
-    "count_scalar": "it is gone since Prometheus 2.0: `scalar(count(..))`",
-    "drop_common_labels": "it is gone since Prometheus 2.0: `sum without (..)`",
-}
 
 
 def lint(
@@ -99,5 +94,5 @@ def found_in(
 
 def _rejected(error: promql.QueryError, message: str) -> Finding:
     name = error.query[error.start : error.end].partition("(")[0].strip()
-    hint = f": {_GONE[name]}" if name in _GONE and "unknown function" in error.reason else ""
+    hint = f": {GONE[name]}" if name in GONE and "unknown function" in error.reason else ""
     return Finding(Span(error.start, error.end), REJECTED, message + hint, Severity.ERROR)

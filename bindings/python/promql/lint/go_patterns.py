@@ -1,41 +1,22 @@
-"""Whether the package `regexp` of Go rejects a pattern, as Prometheus does then.
-
-The classes of Unicode are those of Go 1.19, of which Prometheus 2.42 is made.
-"""
+"""Whether the package `regexp` of Go rejects a pattern, as Prometheus does then: that of Go 1.19, of which Prometheus 2.42 is made."""
 
 from __future__ import annotations
 
 import re
 from typing import List, Set
 
-_SCRIPTS = frozenset(
-    """
-    Adlam Ahom Anatolian_Hieroglyphs Arabic Armenian Avestan Balinese Bamum Bassa_Vah Batak Bengali Bhaiksuki Bopomofo Brahmi Braille
-    Buginese Buhid Canadian_Aboriginal Carian Caucasian_Albanian Chakma Cham Cherokee Chorasmian Common Coptic Cuneiform Cypriot Cyrillic
-    Deseret Devanagari Dives_Akuru Dogra Duployan Egyptian_Hieroglyphs Elbasan Elymaic Ethiopic Georgian Glagolitic Gothic Grantha Greek
-    Gujarati Gunjala_Gondi Gurmukhi Han Hangul Hanifi_Rohingya Hanunoo Hatran Hebrew Hiragana Imperial_Aramaic Inherited
-    Inscriptional_Pahlavi Inscriptional_Parthian Javanese Kaithi Kannada Katakana Kayah_Li Kharoshthi Khitan_Small_Script Khmer Khojki
-    Khudawadi Lao Latin Lepcha Limbu Linear_A Linear_B Lisu Lycian Lydian Mahajani Makasar Malayalam Mandaic Manichaean Marchen
-    Masaram_Gondi Medefaidrin Meetei_Mayek Mende_Kikakui Meroitic_Cursive Meroitic_Hieroglyphs Miao Modi Mongolian Mro Multani Myanmar
-    Nabataean Nandinagari New_Tai_Lue Newa Nko Nushu Nyiakeng_Puachue_Hmong Ogham Ol_Chiki Old_Hungarian Old_Italic Old_North_Arabian
-    Old_Permic Old_Persian Old_Sogdian Old_South_Arabian Old_Turkic Oriya Osage Osmanya Pahawh_Hmong Palmyrene Pau_Cin_Hau Phags_Pa
-    Phoenician Psalter_Pahlavi Rejang Runic Samaritan Saurashtra Sharada Shavian Siddham SignWriting Sinhala Sogdian Sora_Sompeng Soyombo
-    Sundanese Syloti_Nagri Syriac Tagalog Tagbanwa Tai_Le Tai_Tham Tai_Viet Takri Tamil Tangut Telugu Thaana Thai Tibetan Tifinagh Tirhuta
-    Ugaritic Vai Wancho Warang_Citi Yezidi Yi Zanabazar_Square
-    """.split()
-)
-_CATEGORIES = frozenset("C Cc Cf Co Cs L Ll Lm Lo Lt Lu M Mc Me Mn N Nd Nl No P Pc Pd Pe Pf Pi Po Ps S Sc Sk Sm So Z Zl Zp Zs Any".split())
-_POSIX = frozenset("alnum alpha ascii blank cntrl digit graph lower print punct space upper word xdigit".split())
+from ._target_tables import GO_ASSERTIONS, GO_CATEGORIES, GO_CHARACTERS, GO_CLASSES, GO_FLAGS, GO_MOST, GO_POSIX, GO_SCRIPTS
+
+_UNICODE_CLASSES = frozenset(f"{GO_CATEGORIES} {GO_SCRIPTS}".split())
+_ASSERTIONS, _CLASSES = frozenset(GO_ASSERTIONS), frozenset(GO_CLASSES)
 _COUNT = re.compile(r"\{(0|[1-9][0-9]*)(,?)(0|[1-9][0-9]*)?\}")
 _NAMED = re.compile(r"\(\?P<([^>]*)>")
 _FLAGS = re.compile(r"\(\?([a-zA-Z-]*)([:)]?)")
-_KNOWN_FLAGS = re.compile(r"[imsU]*(?:-[imsU]+)?")
+_KNOWN_FLAGS = re.compile(f"[{GO_FLAGS}]*(?:-[{GO_FLAGS}]+)?")
 _HEXADECIMAL = re.compile(r"\{([0-9a-fA-F]+)\}|[0-9a-fA-F]{2}")
 _OCTAL = re.compile(r"0[0-7]{0,2}|[1-7][0-7]{1,2}")
 _UNICODE = re.compile(r"[pP](?:\{\^?([^}]*)\}|([^{]))", re.S)
-_LETTERS = "afnrtv"
 _LAST_CHARACTER = 0x10FFFF
-_MOST = 1_000
 
 
 class GoError(Exception):
@@ -107,7 +88,7 @@ class _Reader:
             self._at += 1
         least = int(count[1]) if count else 0
         most = (int(count[3]) if count[3] else -1 if count[2] else least) if count else -1
-        if least > _MOST or most > _MOST or 0 <= most < least:
+        if least > GO_MOST or most > GO_MOST or 0 <= most < least:
             raise GoError(f"`{text}` is more than 1,000 times, or turned round")
         if not self._last:
             raise GoError(f"`{text}` has nothing to repeat")
@@ -121,7 +102,7 @@ class _Reader:
         times = most if most >= 0 else least
         # (what is repeated 0 times is not looked at)
         self._last = 1 if most == 0 else self._last * max(times, 1)
-        if self._last > _MOST and (least >= 2 or most >= 2):
+        if self._last > GO_MOST and (least >= 2 or most >= 2):
             raise GoError(f"with `{text}` its counts multiply to {self._last:,}, above 1,000")
         self._counts[-1] = max(self._before, self._last)
 
@@ -158,7 +139,7 @@ class _Reader:
 
     def _escape(self) -> None:
         """An escape outside of classes."""
-        if self._rest(r"\A", r"\b", r"\B", r"\z"):
+        if self._pattern[self._at + 1 : self._at + 2] in _ASSERTIONS:
             self._at += 2
         elif self._rest(r"\Q"):
             end = self._pattern.find(r"\E", self._at)
@@ -168,14 +149,14 @@ class _Reader:
 
     def _class_escape(self) -> bool:
         """Reads an escape that is a class, where there is one."""
-        if self._rest(*(f"\\{letter}" for letter in "dDsSwW")):
+        if self._rest("\\") and self._pattern[self._at + 1 : self._at + 2] in _CLASSES:
             self._at += 2
             return True
         if not self._rest(r"\p", r"\P"):
             return False
         found = _UNICODE.match(self._pattern, self._at + 1)
         name = (found[1] or found[2] or "") if found else ""
-        if not found or name not in _SCRIPTS and name not in _CATEGORIES:
+        if not found or name not in _UNICODE_CLASSES:
             raise GoError(f"it knows no class `\\p{{{name}}}` of Unicode")
         self._at = found.end()
         return True
@@ -197,10 +178,10 @@ class _Reader:
                 if code > _LAST_CHARACTER:
                     raise GoError(f"there is no character {code:x}")
                 return chr(code)
-        if not letter or letter not in _LETTERS and (not letter.isascii() or letter.isalnum()):
+        if not letter or letter not in GO_CHARACTERS and (not letter.isascii() or letter.isalnum()):
             raise GoError(f"it knows no `\\{letter}`")
         self._at += 1
-        return letter.translate(str.maketrans(_LETTERS, "\a\f\n\r\t\v"))
+        return letter.translate(str.maketrans(GO_CHARACTERS, "\a\f\n\r\t\v"))
 
     def _class(self) -> None:
         self._at += 2 if self._rest("[^") else 1
@@ -209,7 +190,7 @@ class _Reader:
             first = False
             end = self._pattern.find(":]", self._at + 2) if self._rest("[:") else -1
             if end >= 0:
-                if self._pattern[self._at + 2 : end].lstrip("^") not in _POSIX:
+                if self._pattern[self._at + 2 : end].lstrip("^") not in GO_POSIX.split():
                     raise GoError(f"it knows no class `{self._pattern[self._at : end + 2]}`")
                 self._at = end + 2
             elif not self._class_escape():
