@@ -10,7 +10,7 @@ from importlib.machinery import SourceFileLoader
 from typing import Iterator, List, Optional, Sequence
 
 ROOT = pathlib.Path(__file__).resolve().parents[2]
-sys.path[:0] = [str(ROOT / "bench" / "meaning"), str(ROOT / "bin"), str(ROOT / "bindings" / "python")]
+sys.path[:0] = [str(ROOT / name) for name in ("bench/meaning", "bin", "bindings/python", "bindings/schema")]
 import promql  # noqa: E402
 from promql.token_texts import code_of  # noqa: E402
 

@@ -23,6 +23,7 @@ from typing import Any, Callable, Counter, DefaultDict, Dict, Iterator, List, Na
 from changed import LONGEST_CHANGED, queries_of
 import compare
 import promql
+import tables
 from checks import Checks
 from classes import ESCAPE, classes_of, ends_operand, is_byte_escape, nodes_of
 from examples import lines_of
@@ -35,13 +36,7 @@ MOST_NANOSECONDS = 2**63 - 1
 PAST_DOUBLES = 2**1024 - 2**970
 LISTS = ("by", "without", "on", "ignoring", "group_left", "group_right")
 # The functions of the library that Prometheus 2.42 does not have.
-LATER = frozenset(
-    """
-    double_exponential_smoothing end first_over_time histogram_avg histogram_quantiles histogram_stddev histogram_stdvar info mad_over_time
-    max_of min_of range sort_by_label sort_by_label_desc start step ts_of_first_over_time ts_of_last_over_time ts_of_max_over_time
-    ts_of_min_over_time
-    """.split()
-)
+LATER = frozenset(it.name for it in tables.functions_of("rules") if "prometheus-2.42" not in it.targets)
 
 
 # ---- a query as rules see it
