@@ -2,7 +2,6 @@
 
 import json
 import os
-import threading
 import time
 
 from command_line import run
@@ -83,9 +82,10 @@ class Across(Folder):
         self.assertEqual(run("lint", "--select", "P7", "--query", "job:x:sum > 5", path).status, 0)
         pipe = self.folder / "pipe.yml"
         os.mkfifo(pipe)
-        writer = threading.Thread(target=pipe.write_text, args=(rules(("job:x:sum", "job:x:sum > 5")),))
-        writer.start()
-        self.addCleanup(writer.join)
+        # (so that there is a reader for what is written before the run)
+        reader = os.open(pipe, os.O_RDONLY | os.O_NONBLOCK)
+        self.addCleanup(os.close, reader)
+        pipe.write_text(rules(("job:x:sum", "job:x:sum > 5")))
         ran = run("lint", "--select", "P7", path, pipe)
         self.assertIn(f"{pipe}: 1 rule, 1 finding", ran.out)
 
