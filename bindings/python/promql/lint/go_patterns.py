@@ -9,7 +9,7 @@ from ._target_tables import GO_ASSERTIONS, GO_CATEGORIES, GO_CHARACTERS, GO_CLAS
 
 _UNICODE_CLASSES = frozenset(f"{GO_CATEGORIES} {GO_SCRIPTS}".split())
 _ASSERTIONS, _CLASSES = frozenset(GO_ASSERTIONS), frozenset(GO_CLASSES)
-_COUNT = re.compile(r"\{(0|[1-9][0-9]*)(,?)(0|[1-9][0-9]*)?\}")
+_COUNT = re.compile(r"\{(0|[1-9][0-9]*)(?:(,)(0|[1-9][0-9]*)?)?\}")
 _NAMED = re.compile(r"\(\?P<([^>]*)>")
 _FLAGS = re.compile(r"\(\?([a-zA-Z-]*)([:)]?)")
 _KNOWN_FLAGS = re.compile(f"[{GO_FLAGS}]*(?:-[{GO_FLAGS}]+)?")
@@ -190,7 +190,7 @@ class _Reader:
             first = False
             end = self._pattern.find(":]", self._at + 2) if self._rest("[:") else -1
             if end >= 0:
-                if self._pattern[self._at + 2 : end].lstrip("^") not in GO_POSIX.split():
+                if self._pattern[self._at + 2 + self._rest("[:^") : end] not in GO_POSIX.split():
                     raise GoError(f"it knows no class `{self._pattern[self._at : end + 2]}`")
                 self._at = end + 2
             elif not self._class_escape():
