@@ -1,6 +1,6 @@
 //! A pass over the tokens of a query: what its patterns measure, and the first part that its target reads otherwise.
 
-ghost use Rattle.std.specs.Prelude.{◌≡◌, ◌≤◌, ◌==◌, ◌||◌, ◌∷◌, [], IfOk, length, MatchOption, OnOk, option_map};
+ghost use Rattle.std.specs.Prelude.{◌≡◌, ◌≤◌, ◌==◌, ◌||◌, ◌∷◌, [], false, IfOk, length, MatchOption, None, OnOk, option_map};
 ghost use Rattle.std.specs.Option.{option_or};
 ghost use Rattle.promql_text.specs.Texts.{Text};
 ghost use Rattle.promql_token.specs.Cursor.{tokens_left, tokens_up_to_fault};
@@ -94,6 +94,14 @@ impl Inspection {
         }
     }
 
+    /// Whether a token was found with which the query is over a limit, or is read otherwise.
+    #[inline(always)]
+    pub fn has_found(&self) -> bool
+        ensures { result ≡ false → (limits : bounds.Limits) (query : Text) → IsInspected limits query [] self.now → spec.difference limits query ≡ None }
+    {
+        self.measured.is_over() || self.otherwise.is_some()
+    }
+
     /// Why a query that has these tokens, and no more bytes than its limits allow, is not within them; `None` where it is.
     pub fn limit_fault(&self, limits: &Limits) -> Option<LimitFault>
         ensures { (seen : bounds.Limits) (query : Text) → seen.max_pattern_size ≡ limits.now.max_pattern_size
@@ -120,16 +128,27 @@ fn is_pattern_operator(id: TokenId) -> bool
     id == T_EQL_REGEX || id == T_NEQ_REGEX
 }
 
-/// What all tokens of a query tell of it.
+/// What all tokens of a query tell of it. Of most queries nothing is found, and a loop that ends where something is has less to carry.
 ///
 /// # Errors
 ///
 /// `AllocError` where an allocation failed.
-pub(crate) fn inspect_tokens(
-    alloc: Global,
-    limits: &Limits,
-    query: &str,
-) -> Result<Inspection, AllocError>
+pub fn inspect_tokens(alloc: Global, limits: &Limits, query: &str) -> Result<Inspection, AllocError>
+    ensures { IfOk result (IsInspected limits.now query.now []) }
+{
+    let mut tokens = Cursor::new(query);
+    let mut inspection = Inspection::new();
+    while let Some(token) = tokens.next() {
+        inspection.pass(alloc, limits, query, token, tokens)?;
+        if inspection.has_found() {
+            return inspect_all_tokens(alloc, limits, query);
+        }
+    }
+    Ok(inspection)
+}
+
+/// The same, whatever is found.
+fn inspect_all_tokens(alloc: Global, limits: &Limits, query: &str) -> Result<Inspection, AllocError>
     ensures { IfOk result (IsInspected limits.now query.now []) }
 {
     let mut tokens = Cursor::new(query);

@@ -23,7 +23,7 @@ mod visibility;
 
 pub use byte_escapes::byte_escape;
 pub use differences::{Difference, DifferenceKind, Printed};
-pub use inspection::Inspection;
+pub use inspection::{Inspection, inspect_tokens};
 pub use limits::token_numbered;
 pub use location::Location;
 pub use lookahead::{after_signs, comes_first, is_before_operand, stands_for};

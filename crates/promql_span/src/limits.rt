@@ -263,6 +263,12 @@ impl Measured {
         }
     }
 
+    /// Whether the sum is more than it may be.
+    #[inline(always)]
+    pub(crate) fn is_over(&self) -> bool {
+        self.passed.is_some()
+    }
+
     /// The fault of a text that has these patterns, which may measure so much.
     pub(crate) fn fault(&self, most: usize) -> Option<LimitFault>
         ensures { (text : List ℕ) (limits : bounds.Limits) → length text ≤ limits.max_len → limits.max_pattern_size ≡ most

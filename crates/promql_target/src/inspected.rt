@@ -1,14 +1,16 @@
 //! All that one pass over the tokens of a query tells of it: docs/reference/programs.md, "Limits of a query" and "Targets".
 
-ghost use Rattle.std.specs.Prelude.{◌≡◌, ◌≤◌, IfErr, IfOk, length, true};
+ghost use Rattle.std.specs.Prelude.{◌≡◌, ◌≤◌, [], IfErr, IfOk, length, true};
 ghost use Rattle.promql_span.specs.Differences.{difference};
+ghost use Rattle.promql_span.specs.Inspections.{IsInspected};
 ghost use Rattle.promql_span.specs.QueryLimits.{IsLimitFault, IsWithin, patterns_size};
 ghost use Rattle.promql_span.specs.declared.target.Target.TheVariants.{Rules};
 ghost use Rattle.promql_target.specs.Refusals as spec;
+ghost use Rattle.promql_target.specs.Searching.{IsSearched};
 
 use crate::refusal::{FoundRefusal, Refusal};
 use promql_span::limits::{LimitFault, Limits, may_have_pattern};
-use promql_span::{Difference, Inspection, Printed, Target};
+use promql_span::{Difference, Inspection, Printed, Target, inspect_tokens};
 use promql_token::cursor::Cursor;
 use std::alloc::Global;
 
@@ -79,11 +81,7 @@ fn inspect_printed(alloc: Global, limits: &Limits, query: &str) -> Result<Inspec
     ensures refusal { IfOk result (λ i. i.refusal ≡ spec.refusal limits.now query.now) }
     ensures fault { IfErr result (IsLimitFault query.now limits.now) }
 {
-    let mut tokens = Cursor::new(query);
-    let mut inspection = Inspection::new();
-    while let Some(token) = tokens.next() {
-        inspection.pass(alloc, limits, query, token, tokens)?;
-    }
+    let inspection = inspect_tokens(alloc, limits, query)?;
     match inspection.limit_fault(limits) {
         Some(fault) => Err(fault),
         None => Ok(Inspected {
@@ -93,7 +91,8 @@ fn inspect_printed(alloc: Global, limits: &Limits, query: &str) -> Result<Inspec
     }
 }
 
-/// The same of a query that is not too long, and is checked for this target.
+/// The same of a query that is not too long, and is checked for this target. Of most queries nothing is found, and a loop that ends where
+/// something is has less to carry.
 fn inspect_checked(
     alloc: Global,
     limits: &Limits,
@@ -113,7 +112,53 @@ fn inspect_checked(
     while let Some(token) = tokens.next() {
         found.pass(target, query, token, tokens);
         inspection.pass(alloc, limits, query, token, tokens)?;
+        if found.first.is_some() || inspection.has_found() {
+            return inspect_all(alloc, limits, query, target);
+        }
     }
+    end_of_pass(limits, query, found, inspection)
+}
+
+/// The same, whatever is found.
+fn inspect_all(
+    alloc: Global,
+    limits: &Limits,
+    query: &str,
+    target: Target,
+) -> Result<Inspected, LimitFault>
+    requires short { length query.now ≤ limits.now.max_len }
+    requires checked { spec.checked_by limits.now.printed limits.now.target ≡ target }
+    ensures within { IfOk result (λ i. IsWithin query.now limits.now) }
+    ensures difference { IfOk result (λ i. i.difference ≡ difference limits.now query.now) }
+    ensures refusal { IfOk result (λ i. i.refusal ≡ spec.refusal limits.now query.now) }
+    ensures fault { IfErr result (IsLimitFault query.now limits.now) }
+{
+    let mut tokens = Cursor::new(query);
+    let mut found = FoundRefusal::new();
+    let mut inspection = Inspection::new();
+    while let Some(token) = tokens.next() {
+        found.pass(target, query, token, tokens);
+        inspection.pass(alloc, limits, query, token, tokens)?;
+    }
+    end_of_pass(limits, query, found, inspection)
+}
+
+/// What all tokens of a query tell of it.
+#[inline(always)]
+fn end_of_pass(
+    limits: &Limits,
+    query: &str,
+    found: FoundRefusal,
+    inspection: Inspection,
+) -> Result<Inspected, LimitFault>
+    requires short { length query.now ≤ limits.now.max_len }
+    requires searched { IsSearched (spec.checked_by limits.now.printed limits.now.target) query.now [] found }
+    requires inspected { IsInspected limits.now query.now [] inspection }
+    ensures within { IfOk result (λ i. IsWithin query.now limits.now) }
+    ensures difference { IfOk result (λ i. i.difference ≡ difference limits.now query.now) }
+    ensures refusal { IfOk result (λ i. i.refusal ≡ spec.refusal limits.now query.now) }
+    ensures fault { IfErr result (IsLimitFault query.now limits.now) }
+{
     match inspection.limit_fault(limits) {
         Some(fault) => Err(fault),
         None => Ok(Inspected {

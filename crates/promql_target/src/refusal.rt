@@ -1,9 +1,10 @@
 //! The first part of a query that a server rejects: docs/reference/targets.md.
 
-ghost use Rattle.std.specs.Prelude.{◌≡◌, ◌≤◌, ◌+◌, ◌∷◌, ◌++◌, ◌||◌, [], drop, length, map, option_map, option_to_list, slice_get, IfOk, IfSome, OnOk, ℕ};
+ghost use Rattle.std.specs.Prelude.{◌≡◌, ◌≤◌, ◌+◌, ◌∷◌, ◌++◌, [], drop, false, length, map, None, option_map, option_to_list, slice_get, IfOk, IfSome, OnOk, ℕ};
 ghost use Rattle.std.specs.Option.{option_or};
 ghost use Rattle.promql_text.specs.Texts.{Text};
 ghost use Rattle.promql_token.specs.Cursor.{tokens_left, tokens_up_to_fault};
+ghost use Rattle.promql_span.specs.Differences.{Tokens};
 ghost use Rattle.promql_span.specs.PlacedTokens.{placed_tokens};
 ghost use Rattle.promql_span.specs.declared.target.Target as targets;
 ghost use Rattle.promql_target.specs.Searching.{IsSearched};
@@ -239,21 +240,27 @@ fn refused_kind(
 ) -> Option<RefusalKind>
     ensures { result ≡ spec.counted target (spec.kind_at place (token.entry.0, token.entry.1.now) (tokens_left rest.entry)) }
 {
-    let kind = kind_at(place, token.0, token.1, rest)?;
+    let kind = kind_at(target, place, token, rest)?;
     kind.is_of(target).then_some(kind)
 }
 
-/// What is rejected at a token, which has `rest` after it.
+/// What is rejected at a token, which has `rest` after it, or something that the target does not reject.
 #[inline(always)]
-fn kind_at(place: Place, id: TokenId, token: &str, rest: Cursor<'_>) -> Option<RefusalKind>
-    ensures { result ≡ spec.kind_at place (id, token.now) (tokens_left rest.entry) }
+fn kind_at(
+    target: Target,
+    place: Place,
+    token: (TokenId, &str),
+    rest: Cursor<'_>,
+) -> Option<RefusalKind>
+    ensures { spec.counted target result ≡ spec.counted target (spec.kind_at place (token.entry.0, token.entry.1.now) (tokens_left rest.entry)) }
 {
+    let (id, token) = token;
     match id {
         T_STRING => string_kind(place, token.as_bytes()),
         T_DURATION => duration_kind(place, token),
         T_NUMBER => place.is_before_time().then_some(RefusalKind::NumberForTime),
         T_ADD => plus_kind(place, rest),
-        _ => word_kind(place, id, token, rest),
+        _ => word_kind(target, place, id, token, rest),
     }
 }
 
@@ -386,10 +393,16 @@ fn after_brace(tokens: Cursor<'_>) -> Cursor<'_>
     rest
 }
 
-/// What is rejected at a word, or at another token.
+/// What is rejected at a word, or at another token, or something that the target does not reject.
 #[inline(always)]
-fn word_kind(place: Place, id: TokenId, word: &str, rest: Cursor<'_>) -> Option<RefusalKind>
-    ensures { result ≡ spec.word_kind place (id, word.now) (tokens_left rest.entry) }
+fn word_kind(
+    target: Target,
+    place: Place,
+    id: TokenId,
+    word: &str,
+    rest: Cursor<'_>,
+) -> Option<RefusalKind>
+    ensures { spec.counted target result ≡ spec.counted target (spec.word_kind place (id, word.now) (tokens_left rest.entry)) }
 {
     match place.area {
         Area::Braces => {
@@ -400,13 +413,13 @@ fn word_kind(place: Place, id: TokenId, word: &str, rest: Cursor<'_>) -> Option<
         Area::Open if place.is_after_operand() => {
             matches!(id, T_SMOOTHED | T_ANCHORED).then_some(RefusalKind::RangeMode)
         }
-        Area::Open => operand_kind(id, word, rest),
+        Area::Open => operand_kind(target, id, word, rest),
     }
 }
 
-/// What is rejected at a word with which an operand begins.
-fn operand_kind(id: TokenId, word: &str, rest: Cursor<'_>) -> Option<RefusalKind>
-    ensures { result ≡ spec.operand_kind (id, word.now) (tokens_left rest.entry) }
+/// What is rejected at a word with which an operand begins, or something that the target does not reject.
+fn operand_kind(target: Target, id: TokenId, word: &str, rest: Cursor<'_>) -> Option<RefusalKind>
+    ensures { spec.counted target result ≡ spec.counted target (spec.operand_kind (id, word.now) (tokens_left rest.entry)) }
 {
     match id {
         T_ATAN2 => Some(RefusalKind::BareAtan2),
@@ -414,18 +427,18 @@ fn operand_kind(id: TokenId, word: &str, rest: Cursor<'_>) -> Option<RefusalKind
             Some(RefusalKind::Fill)
         }
         T_LIMITK | T_LIMIT_RATIO if is_aggregation(rest) => Some(RefusalKind::LaterAggregator),
-        _ if has_refused_call(word) && comes_first(T_LEFT_PAREN, rest) => {
+        _ if has_refused_call(target, word) && comes_first(T_LEFT_PAREN, rest) => {
             call_kind(word, past_token(rest))
         }
         _ => None,
     }
 }
 
-/// Whether some call of the function of this name is rejected.
-fn has_refused_call(name: &str) -> bool
-    ensures { result ≡ (spec.is_later name.now || spec.is_logarithm name.now) }
+/// Whether the target rejects some call of the function of this name.
+fn has_refused_call(target: Target, name: &str) -> bool
+    ensures { result ≡ false → (arguments : Tokens) → spec.counted target (spec.call_kind name.now arguments) ≡ None }
 {
-    is_later(name) || is_logarithm(name)
+    is_logarithm(name) || (matches!(target, Target::Prometheus2) && is_later(name))
 }
 
 /// Whether what comes makes an aggregation of the operator before it.
