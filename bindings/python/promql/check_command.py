@@ -11,7 +11,7 @@ from .checked_queries import Document
 from .documents import Status, Target, read_document, targets_of
 from .files import Fault, counted
 from .jobs import Report, add_arguments, as_bytes, bounds_of, work_on
-from .messages import ERROR, REJECTED, RULE, WARNING, Message, in_order, left_out, listed, placed, skipped_queries
+from .messages import ERROR, REJECTED, RULE, WARNING, Message, in_order, left_out, listed, placed, skipped_queries, summary_of
 from .options import add_server_arguments, whole_number
 from .quick_rules import RulesInOrder
 from .terminal import visible
@@ -66,10 +66,6 @@ def _check_file(arguments: argparse.Namespace, target: Target) -> Report:
     said += [placed(source, fault, WARNING, RULE, source.located(fault)) for fault in listed(warnings, "warnings")]
     facts, left = import_module(_LIVE).reads_of(document, arguments) if arguments.prometheus else (None, [])
     said = in_order([*said, *left, *left_out(document, arguments.verbose), *skipped_queries(document, True)])
-    parts = [document.summary(), counted(count, "error", "errors")]
-    skipped = sum(1 for query in document.queries if query.skipped)
-    if skipped:
-        parts.insert(1, f"{skipped} skipped")
-    summary = f"{visible(source.name)}: {', '.join(parts)}\n"
+    summary = summary_of(document, counted(count, "error", "errors"))
     status = Status.FAILED if left else Status.FINE
     return Report(status, as_bytes(summary), said, len(document.queries), facts=facts)

@@ -37,14 +37,10 @@ def add_parser(subparsers: Any) -> None:
 
 
 def _run(shell: str, subparsers: Any) -> int:
-    print("\n".join(SCRIPTS[shell](_commands(subparsers))))
-    return 0
-
-
-def _commands(subparsers: Any) -> List[Command]:
-    """The commands, as their parsers have them."""
     helps = {action.dest: action.help for action in subparsers._choices_actions}
-    return [_command(name, helps[name], parser) for name, parser in subparsers.choices.items()]
+    commands = [_command(name, helps[name], parser) for name, parser in subparsers.choices.items()]
+    print("\n".join(SCRIPTS[shell](commands)))
+    return 0
 
 
 def _command(name: str, text: str, parser: argparse.ArgumentParser) -> Command:

@@ -6,6 +6,7 @@ import argparse
 import re
 import sys
 from bisect import bisect_right
+from contextlib import suppress
 from dataclasses import dataclass
 from difflib import SequenceMatcher
 from functools import partial
@@ -18,7 +19,7 @@ from .checked_queries import VERDICTS, Budget, Document, QueryChecker, limited_t
 from .documents import Status, Target, read_document, targets_of
 from .files import BLANKS, STDIN, BoundError, Fault, FileError, write_file
 from .jobs import Report, add_arguments, as_bytes, bounds_of, work_on
-from .messages import ERROR, KEPT, LAYOUT, REJECTED, RULE, WARNING, Message, in_order, kind_of_skipped, left_out, of_error, placed
+from .messages import ERROR, KEPT, LAYOUT, REJECTED, RULE, WARNING, Message, in_order, kind_of_skipped, left_out, listed, of_error, placed
 from .options import PEOPLE, PRETTY, STYLES, WIDTH, whole_number
 from .queries import Edit, Query, SameQuery, Spelling, edited
 from .terminal import visible
@@ -72,10 +73,9 @@ class Printer:
         """The query as it is to be written; or nothing, where its variables would not come back."""
         if not query.variables:
             return self._fitted(self.meant(query.text), query.spelling)
-        try:
+        with suppress(promql.QueryError):
             return query.variables.come_back(self._fitted(query.laid_out, query.spelling))
-        except promql.QueryError:
-            return None
+        return None
 
     def _fitted(self, query: str, spelling: Spelling) -> str:
         """The query laid out on one line where its key is, or for people on several that are as wide as a block may be."""
@@ -89,11 +89,8 @@ class Printer:
     def _laid_out(self, query: str, width: int) -> str:
         """The query in this style; for people, whose chains of operators are flat, where it would be longer than a query may be."""
         if self.style == PRETTY:
-            try:
-                with _short_output():
-                    return VERDICTS.made(width, query, partial(promql.pretty, width=width))
-            except promql.LongOutputError:
-                pass
+            with suppress(promql.LongOutputError), _short_output():
+                return VERDICTS.made(width, query, partial(promql.pretty, width=width))
         return self._for_people(query, width)
 
     def _for_people(self, query: str, width: int) -> str:
@@ -147,14 +144,6 @@ def _enforcer(matcher: Optional[str]) -> Callable[[str], str]:
     return partial(VERDICTS.made, ("enforced", matcher), make=partial(promql.enforce, matcher=matcher))
 
 
-def _look_at_sizes(arguments: argparse.Namespace) -> None:
-    """Sees whether the library lays anything out within this width and with this indentation."""
-    try:
-        promql.format("0", width=arguments.width or 0, indent=arguments.indent)
-    except ValueError as error:
-        raise FileError(f"--{error}", _TOO_WIDE) from error
-
-
 def _run(arguments: argparse.Namespace) -> int:
     if arguments.output != "text" and not (arguments.check or arguments.diff or arguments.write):
         arguments.wrong("--output is for --check, --diff and --write: the text of a file is printed as it is")
@@ -164,14 +153,15 @@ def _run(arguments: argparse.Namespace) -> int:
     try:
         enforcer = _enforcer(arguments.enforce)
         if arguments.style != PRETTY:
-            _look_at_sizes(arguments)
+            # (nothing is laid out within a width, or with an indentation, that the library does not take)
+            promql.format("0", width=arguments.width or 0, indent=arguments.indent)
     except FileError as error:
         print(error, file=sys.stderr)
         return error.number
-    if arguments.keep_spelling:
-        # (what would be read otherwise stays as it is written)
-        promql.set_target("rules")
-        VERDICTS.forget()
+    except ValueError as error:
+        print(f"--{error}", file=sys.stderr)
+        return _TOO_WIDE
+    VERDICTS.forget()
     targets = targets_of(arguments.files, arguments.dashboard)
     return work_on(targets, partial(_format_file, enforcer), arguments, goes_on=True, needs_queries=arguments.check)
 
@@ -181,30 +171,42 @@ def _format_file(enforcer: Callable[[str], str], arguments: argparse.Namespace, 
     style = PEOPLE if keeps or sorts else arguments.style
     printer = Printer(arguments.width, arguments.enforce is not None, enforcer, style, arguments.indent, keeps, sorts)
     messages: List[Message] = []
-    queries = 0
+    out, queries = "", 0
+    # (with the spelling everything stays that the target reads otherwise)
+    promql.set_target("rules" if keeps else arguments.target)
     try:
         document = read_document(target, arguments.dashboard, bounds=bounds_of(arguments))
         messages += left_out(document, arguments.verbose)
         queries = len(document.queries)
-        changes = _changes(document, printer, messages)
-        edits = [query.spelling.edit(text) for query, text in changes]
-        out = _put_out(target.name, document, _formatted(document, printer, changes, edits), edits, arguments)
-        if arguments.check or arguments.diff:
-            source = document.source
-            messages += [placed(source, query.whole("laid out otherwise"), ERROR, LAYOUT) for query, _ in changes]
-    except _FaultsError as error:
-        out, messages = "", messages + error.messages
+        written = _written(document, printer, messages)
+        if written is not None:
+            changes = [(query, text) for query, text in written if text != query.original.rstrip("\n")]
+            edits = [query.spelling.edit(text) for query, text in changes]
+            out = _put_out(target.name, document, _formatted(document, printer, changes, edits), edits, arguments)
+            if arguments.check or arguments.diff:
+                source = document.source
+                messages += [placed(source, query.whole("laid out otherwise"), ERROR, LAYOUT) for query, _ in changes]
+            promql.set_target(arguments.target)
+            messages += _warnings(document, written)
     except FileError as error:
-        out, messages = "", [*messages, of_error(target.name, error)]
+        messages.append(of_error(target.name, error))
     return Report(Status.FINE, as_bytes(out), messages, queries)
 
 
-class _FaultsError(FileError):
-    """Why a file is left as it is: each of its faults."""
+def _warnings(document: Document, written: List[Tuple[Query, str]]) -> Iterator[Message]:
+    """What the target rejects of queries as they are written: of each the first part, where the query had it, or else the whole query."""
+    faults, source = [], document.source
+    for query, text in written:
+        read = query.variables.stand_in(text) if query.variables else text
+        for message, *_ in _refusals(read or query.text)[:1]:
+            places = [(start, end) for said, start, end in _refusals(query.text) if said == message] or [(0, len(query.text))]
+            faults.append(query.fault(*places[0], f"warning: {message}")._replace(number=Status.REFUSED))
+    return (placed(source, fault, WARNING, REJECTED, source.shown(fault)) for fault in listed(faults, "warnings"))
 
-    def __init__(self, messages: List[Message]) -> None:
-        super().__init__("it has faults")
-        self.messages = [it._replace(status=Status.FAILED) if it.status == Status.FOUND else it for it in messages]
+
+def _refusals(text: str) -> List[Tuple[str, int, int]]:
+    """What the target says of each part of a text that it rejects, and where that is."""
+    return [(it.message, it.start, it.end) for it in promql.differences(text) if it.is_rejected]
 
 
 def same_as(changes: List[Tuple[Query, str]], printer_of: Callable[[Query], Printer]) -> SameQuery:
@@ -237,9 +239,10 @@ def _reads_as(document: Document, text: str, same_query: SameQuery) -> bool:
         return False
 
 
-def _changes(document: Document, printer: Printer, messages: List[Message]) -> List[Tuple[Query, str]]:
-    """The queries that are to be written in another way, and how; what is to be said of others is added to the messages."""
-    source, changes = document.source, []
+def _written(document: Document, printer: Printer, messages: List[Message]) -> Optional[List[Tuple[Query, str]]]:
+    """The queries that are laid out, and how they are to be written; nothing where the file has faults. These, and what is to be said of
+    other queries, are added to the messages."""
+    source, written = document.source, []
     faults = [placed(source, fault, ERROR, RULE, source.shown(fault)) for fault in document.faults]
     over: List[Query] = []
 
@@ -270,13 +273,12 @@ def _changes(document: Document, printer: Printer, messages: List[Message]) -> L
             fault = query.whole(f"warning: left as it is: {left or _NOT_BACK}")
             kind = kind_of_skipped(query) if query.skipped else (WARNING, KEPT)
             messages.append(placed(source, fault, *kind, source.located(fault)))
-        elif text != query.original.rstrip("\n"):
-            changes.append((query, text))
+        else:
+            written.append((query, text))
     for fault in document.checker.left(over):
         complain(fault, REJECTED)
-    if faults:
-        raise _FaultsError(in_order(faults))
-    return changes
+    messages += [it._replace(status=Status.FAILED) if it.status == Status.FOUND else it for it in in_order(faults)]
+    return None if faults else written
 
 
 def _put_out(name: str, document: Document, text: str, edits: List[Edit], arguments: argparse.Namespace) -> str:

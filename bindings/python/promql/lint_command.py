@@ -14,7 +14,7 @@ from .lint.file_findings import FileFinding, FileLinter, fault_of
 from .lint.records import SharedRecords
 from .lint.rule_places import recorded_rules
 from .lint.table import RULES, Selection, help_of, name_of, unknown_words
-from .messages import ERROR, RULE, UNREAD, Message, left_out, listed, placed, region_of, skipped_queries
+from .messages import ERROR, RULE, UNREAD, Message, left_out, listed, placed, region_of, skipped_queries, summary_of
 from .rule_files import RuleFile
 from .terminal import visible
 
@@ -116,12 +116,9 @@ def _report(arguments: argparse.Namespace, linter: FileLinter, document: Documen
     messages += [*_not_looked_at(source, linter), *skipped_queries(document, arguments.verbose)]
     # (the findings themselves are printed to standard output)
     messages += [_message(source, it) for it in found]
-    skipped = sum(1 for query in document.queries if query.skipped)
-    counts = [f"{skipped} skipped"] if skipped else []
-    counts += [*notes, counted(len(found), "finding", "findings")]
-    lines = [visible(source.shown(fault_of(it)), "\t\n") for it in found]
-    lines.append(f"{visible(source.name)}: {', '.join([document.summary(), *counts])}")
-    return Report(status, as_bytes("\n".join(lines) + "\n"), messages, len(document.queries))
+    lines = [visible(source.shown(fault_of(it)), "\t\n") + "\n" for it in found]
+    lines.append(summary_of(document, *notes, counted(len(found), "finding", "findings")))
+    return Report(status, as_bytes("".join(lines)), messages, len(document.queries))
 
 
 def _not_looked_at(source: Source, linter: FileLinter) -> List[Message]:

@@ -141,6 +141,13 @@ def skipped_queries(document: Document, is_printed: bool) -> Iterator[Message]:
         yield placed(source, fault, *kind_of_skipped(query), source.located(fault) if is_printed else "")
 
 
+def summary_of(document: Document, *counts: str) -> str:
+    """A line with what is in a file, and how much is said of it."""
+    skipped = sum(1 for query in document.queries if query.skipped)
+    parts = [document.summary(), *([f"{skipped} skipped"] if skipped else []), *counts]
+    return f"{visible(document.source.name)}: {', '.join(parts)}\n"
+
+
 def kind_of_skipped(query: Query) -> Tuple[str, str]:
     """The severity and the code of a query that is skipped."""
     return (WARNING, UNREAD) if query.is_unread else (INFO, SKIPPED)
@@ -263,9 +270,8 @@ def as_junit(command: str, told: List[Told]) -> str:
 
 
 def _cases(told: Told) -> Iterator[str]:
-    others = [message for message, fails in zip(told.messages, told.failures) if not fails]
-    if len(others) == len(told.messages):
-        said = "".join(f"      <system-out>{escape(visible(_with_place(it)), False)}</system-out>\n" for it in others)
+    if not any(told.failures):
+        said = "".join(f"      <system-out>{escape(visible(_with_place(it)), False)}</system-out>\n" for it in told.messages)
         yield _case(told.file, told.file, said)
     for message, fails in zip(told.messages, told.failures):
         if fails:

@@ -19,9 +19,9 @@ from functools import partial
 from http import HTTPStatus
 from http.server import BaseHTTPRequestHandler, ThreadingHTTPServer
 from pathlib import Path
-from typing import Any, Dict, List, Tuple
+from typing import Any, Dict, List, Optional, Tuple
 
-from . import NumberTooWideError, QueryError, canonical, drawing, format, places
+from . import NumberTooWideError, QueryError, TooLargeError, canonical, differences, drawing, format, places
 from .options import add_target, whole_number
 from .prometheus_api import TimedReader
 from .terminal import visible
@@ -56,20 +56,30 @@ _LOOPBACK = re.compile(r"(?:localhost|127\.0\.0\.1|\[::1\])(?::\d{1,5})?", re.IG
 def describe(query: str, width: int = MAX_WIDTH) -> Dict[str, Any]:
     """What the page shows of a query: its `line`, its `layout` of so many columns and its `drawing`, or an `error` with its place.
 
-    A text is None where it is too long to show; `note` says why there is no drawing.
+    A text is None where it is too long to show; `warning` says what the target rejects of the layout, and `note` why there is no drawing.
     """
     try:
         texts = {"line": canonical(query), "layout": format(query, width=width)}
     except QueryError as error:
-        return {"error": _error(error)}
-    return {**{name: text if len(text) <= MAX_TEXT else None for name, text in texts.items()}, **_drawing(query)}
+        parts = [visible(part, "\t\n") for part in _parts(query, error.start, error.end)]
+        return {"error": {"message": visible(error.message), "line": error.line, "column": error.column, "parts": parts}}
+    shown = {name: text if len(text) <= MAX_TEXT else None for name, text in texts.items()}
+    return {**shown, "warning": _warning(texts["layout"]), **_drawing(query)}
 
 
-def _error(error: QueryError) -> Dict[str, Any]:
-    """The error, with the query in three parts: the second one is what it is about."""
-    start, end = error.start, error.end
-    parts = [visible(part, "\t\n") for part in (error.query[:start], error.query[start:end], error.query[end:])]
-    return {"message": visible(error.message), "line": error.line, "column": error.column, "parts": parts}
+def _parts(text: str, start: int, end: int) -> List[str]:
+    """A text in three parts: the second one is what a message is about."""
+    return [text[:start], text[start:end], text[end:]]
+
+
+def _warning(layout: str) -> Optional[Dict[str, Any]]:
+    """What the target rejects first of a layout. (One that is longer than a query may be is not looked at.)"""
+    with suppress(TooLargeError):
+        for it in differences(layout):
+            if it.is_rejected:
+                line, column = layout.count("\n", 0, it.start) + 1, it.start - layout.rfind("\n", 0, it.start)
+                return {"message": it.message, "line": line, "column": column, "parts": _parts(layout, it.start, it.end)}
+    return None
 
 
 def _drawing(query: str) -> Dict[str, Any]:
@@ -104,8 +114,7 @@ class Handler(BaseHTTPRequestHandler):
 
     def do_GET(self) -> None:
         try:
-            self._look_at_host()
-            self._look_at_method()
+            self._look_at_head()
             if self.path == "/query":
                 self._send_json(HTTPStatus.OK, describe(*self._question()))
             else:
@@ -116,12 +125,10 @@ class Handler(BaseHTTPRequestHandler):
 
     do_HEAD = do_POST = do_PUT = do_PATCH = do_DELETE = do_OPTIONS = do_GET
 
-    def _look_at_host(self) -> None:
+    def _look_at_head(self) -> None:
         hosts: List[str] = self.headers.get_all("Host", [])
         if len(hosts) != 1 or not _LOOPBACK.fullmatch(hosts[0]):
             raise _Rejection(HTTPStatus.MISDIRECTED_REQUEST, "the host is not this machine")
-
-    def _look_at_method(self) -> None:
         if self.path not in _METHODS:
             raise _Rejection(HTTPStatus.NOT_FOUND, "there is nothing here")
         if self.command not in _METHODS[self.path]:

@@ -218,15 +218,10 @@ def _look_at(path: str, table: Table, part: str) -> None:
         is_right, what = keys[key]
         if not is_right(value):
             raise FileError(f"{path}: `{name}` is not {what}")
-        if key in _CODES:
-            _look_at_codes(path, name, value)
+        unknown = importlib.import_module(".lint", __package__).unknown_words(value) if key in _CODES else ()
+        if unknown:
+            raise FileError(f"{path}: `{name}`: no rule has a code that begins with {unknown[0]!r}")
         for inner in [value] if key == "limits" else value if key == "paths" else ():
             _look_at(path, inner, key)
     if part == "paths" and "files" not in table:
         raise FileError(f"{path}: `paths` without `files`")
-
-
-def _look_at_codes(path: str, name: str, words: List[str]) -> None:
-    unknown: List[str] = importlib.import_module(".lint", __package__).unknown_words(words)
-    if unknown:
-        raise FileError(f"{path}: `{name}`: no rule has a code that begins with {unknown[0]!r}")

@@ -191,6 +191,19 @@ class Page(unittest.TestCase):
         self.assertEqual(self.browser.value("document.querySelector('#place mark').textContent"), "foo")
         self.assertEqual(self.browser.text("message")[:13], "2:6: expected")
 
+    def test_what_the_target_rejects(self):
+        self.open("sum(foo{a='🦀' or b='2'})")
+        self.browser.wait_shown("warning")
+        self.browser.wait_shown("accepted")
+        self.assertEqual(self.browser.text("warning"), "1:16: Prometheus 3 rejects this: it knows no `or` between matchers")
+        self.assertEqual(self.browser.text("layout"), 'sum(foo{a="🦀" or b="2"})')
+        self.assertEqual(self.browser.value("document.querySelector('#layout mark').textContent"), "or")
+        self.type("sum(foo)")
+        self.browser.wait_for("document.getElementById('layout').textContent === 'sum(foo)'")
+        self.assertTrue(self.browser.value("document.getElementById('warning').hidden"))
+        self.assertIsNone(self.browser.value("document.querySelector('#layout mark')"))
+        self.assertEqual(self.browser.complaints, [])
+
     def test_nothing_of_a_query_is_markup(self):
         attack = "<img src=x onerror='document.title=1'><script>document.title=1</script>"
         for query, shown in ((f'count_values("a", foo{{b="{attack}"}})', "accepted"), (f"rate({attack})", "rejected")):

@@ -118,6 +118,27 @@ class Queries(Served):
         shown = self.ask("# all\nsum(foo)by(job) # one")
         self.assertEqual((shown["line"], shown["layout"]), ("sum by (job) (foo)", "# all\nsum by (job) (foo) # one"))
 
+    def test_what_the_target_rejects(self):
+        """A warning of the first part of the layout, in the words of the library's error."""
+        for query, place, part in (
+            ("rate(+foo[5m])", (1, 6), "+"),
+            ("# 🦀\nsum(\nexp(Inf)) # é", (2, 5), "exp"),
+            ("-0 * foo{a='1' or b='2'} * exp(Inf)", (1, 16), "or"),
+        ):
+            shown = self.ask(query)
+            line, layout, warning = shown["line"], shown["layout"], shown["warning"]
+            self.assertEqual((line, layout), (promql.canonical(query), promql.format(query)))
+            self.assertEqual(((warning["line"], warning["column"]), warning["parts"][1]), (place, part))
+            self.assertEqual("".join(warning["parts"]), layout)
+            self.assertEqual(warning["message"], next(it.message for it in promql.differences(layout) if it.is_rejected))
+        # (the last layout is longer than a query may be)
+        for query in ("up", "-0 * up", "a[300]", "(" * 40 + "label_join(exp(Inf), 'b'" + ",''" * 4_000 + ")" * 41):
+            self.assertIsNone(self.ask(query)["warning"])
+        with self.assertRaises(promql.RefusedError) as raised:
+            promql.check(promql.format("sum(\nexp(Inf))"))
+        shown = self.ask("sum(\nexp(Inf))")["warning"]
+        self.assertEqual([shown[it] for it in ("message", "line", "column")], [getattr(raised.exception, it) for it in ("message", "line", "column")])
+
     def test_rejected(self):
         for query, place, parts in (
             ("1 +", (1, 4), ["1 +", "", ""]),

@@ -123,6 +123,96 @@ class Reports(Folder):
         self.assertEqual(run("check", "--fail-on", "none", twice).status, 64)
 
 
+class Refused(Folder):
+    """What the target rejects of queries that are formatted."""
+
+    QUERIES = ("rate( foo{a='1' or b='2'}[5m])", "up == 0", "sum(exp(Inf))", "rate(+foo[5m])")
+    OR = "Prometheus 3 rejects this: it knows no `or` between matchers"
+    EXP = "Prometheus 3 rejects this: the argument is an instant vector there; write vector(..) around the number"
+    PLUS = "Prometheus 3 rejects this: a sign is before numbers and instant vectors only there; leave it out"
+    FOUND = [(5, 27, 5, 29, OR), (9, 15, 9, 18, EXP), (11, 16, 11, 17, PLUS)]
+
+    def setUp(self):
+        super().setUp()
+        rules = "".join(f"  - record: a{number}\n    expr: {query}\n" for number, query in enumerate(self.QUERIES))
+        self.path = self.file("groups:\n- name: a\n  rules:\n" + rules)
+        self.formatted = self.path.read_text().replace("rate( ", "rate(").replace("'", '"')
+
+    def warnings(self, *options, command=("format", "--check")):
+        """The places and the messages of the warnings."""
+        found = [it for it in json.loads(run(*command, "--output", "json", *options, self.path).out) if it["severity"] == "warning"]
+        self.assertEqual({it["code"] for it in found} - {"P001"}, set())
+        return [(it["line"], it["column"], it["endLine"], it["endColumn"], it["message"]) for it in found]
+
+    def test_text(self):
+        for options, status, out in ((("--check",), 19, f"{self.path}\n"), ((), 0, self.formatted), (("--write",), 0, "")):
+            ran = run("format", *options, self.path)
+            self.assertEqual((ran.status, ran.out), (status, out))
+            self.assertTrue(ran.err.startswith(f"{self.path}:5:27: warning: {self.OR}\n    expr: rate( foo{{a='1' or"), ran.err)
+            self.assertEqual(ran.err.count("warning: "), 3)
+        self.assertEqual(self.path.read_text(), self.formatted)
+        # (and where nothing changes)
+        self.assertEqual(run("format", "--check", self.path)[:2], (0, ""))
+        self.assertEqual(self.warnings(), [(5, 26, 5, 28, self.OR), *self.FOUND[1:]])
+
+    def test_reports(self):
+        for command in (("format", "--check"), ("format", "--diff"), ("format", "--check", "--jobs", "2")):
+            self.assertEqual(self.warnings(command=command), self.FOUND)
+        run_sarif, = json.loads(run("format", "--check", "--output", "sarif", self.path).out)["runs"]
+        found = [(it["ruleId"], it["message"]["text"]) for it in run_sarif["results"] if it["level"] == "warning"]
+        self.assertEqual(found, [("P001", message) for *_, message in self.FOUND])
+        self.assertTrue(run_sarif["invocations"][0]["executionSuccessful"])
+        lines = run("format", "--check", "--output", "github", self.path).out.splitlines()
+        place = "line=5,col=27,endLine=5,endColumn=29"
+        self.assertEqual(lines[1], f"::warning file={self.path},{place},title=P001::{self.OR}")
+        self.assertEqual([line.split(" ")[0] for line in lines], ["::error", "::warning", "::warning", "::warning"])
+        # (as JUnit has warnings: beside what fails there is nothing of them)
+        suite, = ElementTree.fromstring(run("format", "--check", "--output", "junit", self.path).out)
+        self.assertEqual((suite.get("failures"), suite.get("tests")), ("1", "1"))
+        suite, = ElementTree.fromstring(run("format", "--write", "--output", "junit", self.path).out)
+        told = [it.text for it in suite[0].findall("system-out")]
+        self.assertEqual((suite.get("failures"), told[0]), ("0", f"{self.path}:5:27: warning P001: {self.OR}"))
+        self.assertEqual(len(told), 3)
+
+    def test_fail_on(self):
+        for severity, status in (("error", 0), ("warning", 24)):
+            ran = run("format", "--fail-on", severity, self.path)
+            self.assertEqual((ran.status, ran.out), (status, self.formatted))
+        (self.folder / ".promql.toml").write_text('fail-on = "warning"\n')
+        self.assertEqual(run("format", "--write", self.path).status, 24)
+        self.assertEqual(self.path.read_text(), self.formatted)
+
+    def test_what_is_written_counts(self):
+        self.assertEqual(self.warnings("--target", "rules"), [])
+        self.assertEqual(self.warnings("--keep-spelling"), self.FOUND)
+        self.assertEqual(self.warnings("--keep-spelling", "--target", "rules"), [])
+        # (a plus is not printed)
+        self.assertEqual(self.warnings("--style", "pretty"), self.FOUND[:2])
+        self.assertEqual(self.warnings("--enforce", "b='c'"), self.FOUND[:2])
+        self.path.write_text(RULES + "  - record: a\n    expr: a[300]\n  - record: b\n    expr: a[9223372037]\n  - record: c\n    expr: b\n")
+        old = ("--target", "prometheus-2.42")
+        kept = "Prometheus 2.42 rejects this: a length of time without a unit is of a later version; write 300s for 300"
+        self.assertEqual(self.warnings(), [])
+        self.assertEqual(self.warnings(*old), [(7, 13, 7, 23, kept)])
+        self.assertEqual(self.warnings("--keep-spelling", *old), [(5, 13, 5, 16, kept), (7, 13, 7, 23, kept)])
+        # (the duration that is printed for a number is not in the query)
+        self.assertEqual([it[:4] for it in self.warnings("--style", "pretty")], [(7, 11, 7, 24)])
+        # (nor is the matcher)
+        found = self.warnings("--enforce", '"x y"="z"', *old)
+        self.assertEqual([it[:4] for it in found], [(5, 11, 5, 17), (7, 11, 7, 24), (9, 11, 9, 12)])
+        self.assertEqual(found[2][4], "Prometheus 2.42 rejects this: names in quotes are of a later version")
+
+    def test_variables(self):
+        self.path = self.file(json.dumps({"panels": [{"targets": [{"expr": "rate( $metric{a=\"$a\" or b='c'}[$__range])"}]}]}), "a.json")
+        self.assertEqual(self.warnings(), [(1, 59, 1, 61, self.OR)])
+        self.assertIn(r'rate($metric{a=\"$a\" or b=\"c\"}[$__range])', run("format", self.path).out)
+
+    def test_a_file_that_is_left(self):
+        self.path.write_text(self.path.read_text() + "  - record: b\n    expr: (\n")
+        ran = run("format", self.path)
+        self.assertEqual((ran.status, ran.out, ran.err.count("warning")), (4, "", 0))
+
+
 class Comments(Folder):
     def unused(self, text, *options):
         """The lines of the comments that silence nothing."""

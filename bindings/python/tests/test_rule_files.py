@@ -812,7 +812,8 @@ class Random(Folder):
         ]
         queries = {row[1] for row in texts if row[0] == "line" and len(row) > 3 and len(row[1]) < 400 and row[1][0] not in '"='}
         queries |= set((ROOT / "bench" / "queries" / "stdin").read_text().split("\n")) - {""}
-        self.accepted = sorted(query for query in queries if accepts(query) and "#" not in query)
+        # (a number of a length of time is printed as a duration, which may be one that the target rejects)
+        self.accepted = sorted(it for it in queries if "#" not in it and accepts(it) and accepts(promql.canonical(it)))
         self.rejected = sorted(query for query in queries if not accepts(query))
         self.generator = random.Random(11)
 

@@ -190,8 +190,9 @@ class FileLinter:
         if len(contexts) > MOST_CONTEXTS:
             count = f"{len(contexts):,} rules that differ"
             self.left.append(query.whole(f"an alias has it in {count}: it is looked at for {MOST_CONTEXTS} of these"))
+        is_written, explains = self._is_written(query), self._document.checker.explains
         for context, ignored in contexts[:MOST_CONTEXTS]:
-            for finding in self._look(query, context):
+            for finding in self._looks.look_at(query.text, self._selection, context, is_written, explains, self._budget):
                 if finding.code not in ignored:
                     found[(*finding.span, finding.code, finding.message)] = finding
                 else:
@@ -228,11 +229,6 @@ class FileLinter:
             if all(any(it not in LIVE and self._selection.has(it) for it in codes_of(word)) or not codes_of(word) for word in comment.words):
                 finding = Finding(Span(0, 0), UNUSED, _UNUSED, Severity.WARNING)
                 yield FileFinding(comment.start, comment.end, finding, None, ())
-
-    def _look(self, query: Query, context: RuleContext) -> List[Finding]:
-        """What is found in a query for one rule that has it."""
-        is_written, explains = self._is_written(query), self._document.checker.explains
-        return self._looks.look_at(query.text, self._selection, context, is_written, explains, self._budget)
 
     def _contexts(self, query: Query) -> List[Tuple[RuleContext, Ignored]]:
         """The rules that have a query and differ to the linter, and what comments silence there."""

@@ -24,13 +24,12 @@ function showOnly(...ids) {
   }
 }
 
-/** Shows the query with a mark at the part that the error is about. */
-function showError({ message, line, column, parts: [before, part, after] }) {
-  showText("message", `${line}:${column}: ${message}`);
+/** Shows a message and its place, and a text with a mark at the part that the message is about. */
+function showMessage(id, { message, line, column, parts: [before, part, after] }, idOfText) {
+  showText(id, `${line}:${column}: ${message}`);
   const mark = document.createElement("mark");
   mark.textContent = part;
-  element("place").replaceChildren(before, mark, after);
-  showOnly("rejected");
+  element(idOfText).replaceChildren(before, mark, after);
 }
 
 function showDrawing(drawing, note) {
@@ -51,13 +50,18 @@ function scrollToRoot() {
   }
 }
 
-function showResult({ error, line, layout, drawing, note }) {
+function showResult({ error, line, layout, warning, drawing, note }) {
   if (error) {
-    showError(error);
+    showMessage("message", error, "place");
+    showOnly("rejected");
     return;
   }
   showText("line", line);
   showText("layout", layout);
+  element("warning").hidden = !warning;
+  if (warning) {
+    showMessage("warning", warning, "layout");
+  }
   showDrawing(drawing, note);
   showOnly("accepted");
   scrollToRoot();
