@@ -195,7 +195,7 @@ class Page(unittest.TestCase):
         self.open("sum(foo{a='🦀' or b='2'})")
         self.browser.wait_shown("warning")
         self.browser.wait_shown("accepted")
-        self.assertEqual(self.browser.text("warning"), "1:16: Prometheus 3 rejects this: it knows no `or` between matchers")
+        self.assertEqual(self.browser.text("warning"), "1:15: Prometheus 3 rejects this: it knows no `or` between matchers")
         self.assertEqual(self.browser.text("layout"), 'sum(foo{a="🦀" or b="2"})')
         self.assertEqual(self.browser.value("document.querySelector('#layout mark').textContent"), "or")
         self.type("sum(foo)")
