@@ -93,8 +93,16 @@ func TestCommandLines(t *testing.T) {
 	if status := run([]string{"-version"}, &out, &log); status != ended || out.String() != "promql-proxy 0.8.0\n" {
 		t.Errorf("-version: %d %s", status, out.String())
 	}
-	if status := run([]string{"-help"}, &out, &log); status != ended || !strings.Contains(log.String(), "-internal-listen") {
-		t.Errorf("-help: %d %s", status, log.String())
+	for _, option := range []string{"-help", "-h"} {
+		log.Reset()
+		if status := run([]string{option}, &out, &log); status != ended || !strings.Contains(log.String(), "-internal-listen") {
+			t.Errorf("%s: %d %s", option, status, log.String())
+		}
+		for _, target := range []string{"prometheus-2.42", "prometheus-3", "rules"} {
+			if _, err := promql.ParseTarget(target); err != nil || !strings.Contains(log.String(), target+",") {
+				t.Errorf("%s: no %s: %v %s", option, target, err, log.String())
+			}
+		}
 	}
 }
 

@@ -101,7 +101,7 @@ func (o *options) flags(out io.Writer) *flag.FlagSet {
 	flags.Var(&o.more, "pass-parameter", "the name of one more parameter that the Prometheus gets; several times for several")
 	o.addLimits(flags)
 	o.cache.addFlags(flags)
-	flags.StringVar(&o.target, "target", "prometheus-3", "what reads the queries: prometheus-3, or rules, to let byte escapes through")
+	flags.StringVar(&o.target, "target", "prometheus-3", "what reads the queries: prometheus-2.42, prometheus-3, or rules, to let through what Prometheus reads otherwise")
 	flags.StringVar(&o.logLevel, "log-level", "info", "the least level that is logged: info, warn or error")
 	flags.BoolVar(&o.logQueries, "log-queries", false, "log queries, selectors and messages about them")
 	flags.BoolVar(&o.version, "version", false, "print the version and end")

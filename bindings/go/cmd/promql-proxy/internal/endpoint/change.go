@@ -30,13 +30,13 @@ func changeQuery(plan *Plan, enforcement Enforcement) *failure.Error {
 	return nil
 }
 
-// checkQuery leaves a query as it is, of which no series are read, and so no tenant's.
+// checkQuery leaves a query as it is, of which no series are read, and so no tenant's. What the target alone rejects it rejects itself.
 func checkQuery(plan *Plan, _ Enforcement) *failure.Error {
 	query, failed := one(plan.Parameters)
 	if failed != nil {
 		return failed
 	}
-	if err := promql.Check(query); err != nil {
+	if err := promql.Check(query); err != nil && !errors.Is(err, promql.ErrRefused) {
 		return rejected(err)
 	}
 	return nil

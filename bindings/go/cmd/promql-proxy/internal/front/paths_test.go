@@ -1,6 +1,7 @@
 package front
 
 import (
+	"errors"
 	"fmt"
 	"net/http"
 	"net/url"
@@ -9,6 +10,7 @@ import (
 	"strings"
 	"testing"
 
+	"wellapron.example/promql"
 	"wellapron.example/promql/cmd/promql-proxy/internal/endpoint"
 )
 
@@ -229,6 +231,24 @@ func TestMetadata(t *testing.T) {
 	other := serve(t, fixed("team-a"), said(404, nil, "404 page not found"))
 	response, body := other.do(t, request{method: "GET", target: "/api/v1/metadata"})
 	checkError(t, "a server without metadata", response, body, http.StatusNotFound, "not_found")
+}
+
+// What the target is known to reject passes, and the client gets the answer of the Prometheus.
+func TestWhatTheTargetRejects(t *testing.T) {
+	answer := `{"status":"error","errorType":"bad_data","error":"of the Prometheus"}`
+	proxy := serve(t, fixed("team-a"), said(400, http.Header{"Content-Type": {"application/json"}}, answer))
+	query, changed := `foo{a="1" or b="2"}`, `foo{a="1", tenant="team-a" or b="2", tenant="team-a"}`
+	if err := promql.Check(query); !errors.Is(err, promql.ErrRefused) {
+		t.Fatalf("%s: %v", query, err)
+	}
+	for path, wanted := range map[string]string{
+		"/api/v1/query": changed, "/api/v1/query_range": changed, "/api/v1/query_exemplars": changed, "/api/v1/format_query": query, "/api/v1/parse_query": query,
+	} {
+		response, body := proxy.get(t, path, url.Values{"query": {query}})
+		if found := proxy.behind.one(t); response.StatusCode != 400 || body != answer || found.parameters.Get("query") != wanted {
+			t.Errorf("%s: %d %s: Prometheus was asked %v", path, response.StatusCode, body, found)
+		}
+	}
 }
 
 // A request that reads no series passes as it is, where it is a query; what is no query does not.
