@@ -9,7 +9,7 @@ from bisect import bisect_right
 from contextlib import suppress
 from dataclasses import dataclass
 from difflib import SequenceMatcher
-from functools import partial
+from functools import lru_cache, partial
 from itertools import accumulate
 from typing import Any, Callable, ContextManager, Iterator, List, Optional, Sequence, Tuple
 
@@ -195,11 +195,11 @@ def _format_file(enforcer: Callable[[str], str], arguments: argparse.Namespace, 
 
 def _warnings(document: Document, written: List[Tuple[Query, str]]) -> Iterator[Message]:
     """What the target rejects of queries as they are written: of each the first part, where the query had it, or else the whole query."""
-    faults, source = [], document.source
+    faults, source, refusals = [], document.source, lru_cache(maxsize=None)(_refusals)
     for query, text in written:
         read = query.variables.stand_in(text) if query.variables else text
-        for message, *_ in _refusals(read or query.text)[:1]:
-            places = [(start, end) for said, start, end in _refusals(query.text) if said == message] or [(0, len(query.text))]
+        for message, *_ in refusals(read or query.text)[:1]:
+            places = [(start, end) for said, start, end in refusals(query.text) if said == message] or [(0, len(query.text))]
             faults.append(query.fault(*places[0], f"warning: {message}")._replace(number=Status.REFUSED))
     return (placed(source, fault, WARNING, REJECTED, source.shown(fault)) for fault in listed(faults, "warnings"))
 

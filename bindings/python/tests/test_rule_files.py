@@ -795,7 +795,7 @@ class Page(Folder):
         for name, text in re.findall(r"`(\w+\.yml)`:\n\n```yaml\n(.*?)^```$", page, re.M | re.S):
             self.file(text, name)
         sessions = re.findall(r"^```sh\n\$ promql-rules (.*?)\n(.*?)^```$", page, re.M | re.S)
-        self.assertEqual(len(sessions), 5)
+        self.assertEqual(len(sessions), 6)
         for arguments, wanted in sessions:
             command = ["sh", "-c", f'exec "$0" -m promql {arguments}', sys.executable]
             ran = subprocess.run(command, cwd=self.folder, stdout=subprocess.PIPE, stderr=subprocess.STDOUT, check=False)
