@@ -15,4 +15,7 @@ pub mod ErrorPlacing
 pub mod Columns
 pub mod VisibleTexts
 mod TokenRanges
+mod TokensWithout
+mod WithoutMarks
 mod WithoutTilde
+mod WordIds

@@ -20,3 +20,4 @@ pub mod Inspections
 pub mod MeasuredTokens
 pub mod QueryLimits
 pub mod Visible
+pub mod QueryMarks

@@ -1,6 +1,6 @@
 //! All that one pass over the tokens of a query tells of it: docs/reference/programs.md, "Limits of a query" and "Targets".
 
-ghost use Rattle.std.specs.Prelude.{◌≡◌, ◌≤◌, [], IfErr, IfOk, length, true};
+ghost use Rattle.std.specs.Prelude.{◌≡◌, ◌≤◌, [], IfErr, IfOk, length, None, true};
 ghost use Rattle.promql_span.specs.Differences.{difference};
 ghost use Rattle.promql_span.specs.Inspections.{IsInspected};
 ghost use Rattle.promql_span.specs.QueryLimits.{IsLimitFault, IsWithin, patterns_size};
@@ -10,7 +10,7 @@ ghost use Rattle.promql_target.specs.Searching.{IsSearched};
 
 use crate::refusal::{FoundRefusal, Refusal};
 use promql_span::limits::{LimitFault, Limits, may_have_pattern};
-use promql_span::{Difference, Inspection, Printed, Target, inspect_tokens};
+use promql_span::{Difference, Inspection, Printed, Target, has_mark, inspect_tokens};
 use promql_token::cursor::Cursor;
 use std::alloc::Global;
 
@@ -33,18 +33,23 @@ fn checked_by(printed: Printed, target: Target) -> Target
     }
 }
 
-/// Whether a pass over the tokens of a query finds nothing: these rules alone read it, and it has no pattern.
+/// Whether a pass over the tokens of a query finds nothing, since it has nothing of which something may be found. A query that is checked may.
 fn has_nothing_to_find(limits: &Limits, query: &str) -> bool
-    ensures { result ≡ true → (limits.now.target ≡ Rules) × (patterns_size query.now ≡ 0) }
+    ensures patterns { result ≡ true → patterns_size query.now ≡ 0 }
+    ensures difference { result ≡ true → difference limits.now query.now ≡ None }
+    ensures refusal { result ≡ true → spec.refusal limits.now query.now ≡ None }
 {
-    match limits.target {
-        Target::Rules => !may_have_pattern(query),
+    match checked_by(limits.printed, limits.target) {
+        Target::Rules => match limits.target {
+            Target::Rules => !may_have_pattern(query),
+            Target::Prometheus2 | Target::Prometheus3 => !has_mark(query),
+        },
         Target::Prometheus2 | Target::Prometheus3 => false,
     }
 }
 
-/// What the target makes of a query, where the query is within its limits. The tokens up to a lexical fault are looked at once, where these
-/// rules are not all that reads it, or it may have a pattern.
+/// What the target makes of a query, where the query is within its limits. The tokens up to a lexical fault are looked at once, where it
+/// is checked, or has something of which something may be found.
 ///
 /// # Errors
 ///
