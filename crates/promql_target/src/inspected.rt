@@ -8,7 +8,7 @@ ghost use Rattle.promql_span.specs.declared.target.Target.TheVariants.{Rules};
 ghost use Rattle.promql_target.specs.Refusals as spec;
 ghost use Rattle.promql_target.specs.Searching.{IsSearched};
 
-use crate::refusal::{FoundRefusal, Refusal};
+use crate::refusal::{FoundRefusal, Refusal, first_refusal};
 use promql_span::limits::{LimitFault, Limits, may_have_pattern};
 use promql_span::{Difference, Inspection, Printed, Target, has_mark, inspect_tokens};
 use promql_token::cursor::Cursor;
@@ -73,7 +73,11 @@ pub fn inspect(alloc: Global, limits: &Limits, query: &str) -> Result<Inspected,
     }
     match checked_by(limits.printed, limits.target) {
         Target::Rules => inspect_printed(alloc, limits, query),
-        target => inspect_checked(alloc, limits, query, target),
+        target if has_mark(query) => inspect_checked(alloc, limits, query, target),
+        target => Ok(Inspected {
+            difference: None,
+            refusal: first_refusal(target, query),
+        }),
     }
 }
 

@@ -132,6 +132,9 @@ pub fn first_refusal(target: Target, query: &str) -> Option<Refusal>
     let mut found = FoundRefusal::new();
     while let Some(token) = tokens.next() {
         found.pass(target, query, token, tokens);
+        if let Some(first) = found.first {
+            return Some(first);
+        }
     }
     found.first
 }
