@@ -162,16 +162,15 @@ class QueryChecker:
         if text in self._counted:
             return True
         size = pattern_size(text)
-        if size > promql.limits()["max_patterns"]:
-            # (the library compiles none of them)
-            size = 0
-        if size and self._over is None and self._size + size > self._most:
+        # (of patterns that are larger than those of a query may be, the library compiles none)
+        if not size or size > promql.limits()["max_patterns"]:
+            return True
+        if self._over is None and self._size + size > self._most:
             self._over = self._size + size
-        if size and self._over is not None:
+        if self._over is not None:
             return False
-        if size:
-            self._counted.add(text)
-            self._size += size
+        self._counted.add(text)
+        self._size += size
         return True
 
     def accepts(self, text: str) -> bool:

@@ -7,20 +7,16 @@ import re
 from contextlib import suppress
 from enum import IntEnum
 from importlib import import_module
-from typing import TYPE_CHECKING, FrozenSet, Iterable, Iterator, List, Mapping, NamedTuple, Optional, Sequence, Union
+from typing import TYPE_CHECKING, Iterable, Iterator, List, Mapping, NamedTuple, Optional, Sequence, Union
 
 from ._answers import Status as Answered
 from .checked_queries import Document, FileBounds, QueryChecker
-from .exact_yaml import NoReaderError
-from .files import BoundError, FileError, Source, nested_too_deeply, read_source
-from .queries import Query
+from .files import BoundError, FileError, NoReaderError, Source, Unclear, nested_too_deeply, read_source
 from .quick_rules import RulesInOrder
-from .quick_yaml import Unclear
-from .rule_documents import Kind
-from .rule_files import BOARDS, RuleFile
 
 if TYPE_CHECKING:
     from .dashboards import Dashboard
+    from .rule_files import RuleFile
 
 
 class Target(NamedTuple):
@@ -49,6 +45,8 @@ class Target(NamedTuple):
 # The texts in the places of variables of dashboards.
 Variables = Optional[Mapping[str, str]]
 _RULES = (".rules", ".rule")
+# The module of dashboards, which is imported where there are some.
+BOARDS = "promql.dashboards"
 _READ = (".yml", ".yaml", *_RULES, ".json")
 # What a file is made of by another program, which is to be run before.
 _TEMPLATES = (".j2", ".jinja", ".jinja2", ".tmpl", ".tpl", ".gotmpl", ".erb")
@@ -86,8 +84,7 @@ def _in_folder(folder: str, ends: Sequence[str]) -> Iterator[Target]:
 
 def _stem(name: str) -> str:
     """The name of a file without what says that it is a template."""
-    root, end = os.path.splitext(name)
-    return root if end in _TEMPLATES else name
+    return os.path.splitext(name)[0] if name.endswith(_TEMPLATES) else name
 
 
 GROUPS = re.compile(r"^[^\S\n]*groups:", re.M)
@@ -188,6 +185,8 @@ def document_of(
     source: Source, is_dashboard: bool, is_json: bool, variables: Variables, checker: QueryChecker
 ) -> Union[Dashboard, RuleFile]:
     """The document that a text is."""
+    # (importing it takes longer than a hundred files in order)
+    from .rule_files import RuleFile
     if not is_dashboard and not is_json:
         return RuleFile(source, checker)
     board: Dashboard = import_module(BOARDS).Dashboard(source, variables, checker)
@@ -210,18 +209,3 @@ class NotReadError(FileError):
         super().__init__(str(error), error.number)
         self.text = source.text
         self.source, self.span, self.message = error.source, error.span, error.message
-
-
-def accepted(document: Document) -> Iterator[Query]:
-    """The queries that are looked at and accepted, but for those of unit tests."""
-    if isinstance(document, RuleFile) and any(it.kind is Kind.TESTS for it in document.documents):
-        return iter(())
-    checker = document.checker
-    return (it for it in document.queries if not it.skipped and checker.admits(it.text) and not checker.error(it.text))
-
-
-def recorded_in(document: Document) -> FrozenSet[str]:
-    """The metrics that the rules of a file record, with those of its texts that are files."""
-    files = document.files() if isinstance(document, RuleFile) else []
-    names = (file.mappings.name(rule, "record") for file in files for rule in file.rules())
-    return frozenset(filter(None, names))

@@ -3,14 +3,11 @@
 from __future__ import annotations
 
 import importlib
-import importlib.util
 import warnings
-from functools import lru_cache
 from typing import Any, Dict, List
 
 from .checked_queries import NO_BOUND, Budget
-from .files import BoundError, Fault, FileError, Source, nested_too_deeply
-from .quick_yaml import Unclear
+from .files import BoundError, Fault, FileError, Source, Unclear, nested_too_deeply
 from .scalars import Node, Token
 
 # As many characters as a token takes the time of.
@@ -83,17 +80,6 @@ class _Converter:
             if not is_scalar:
                 self._todo.append(found)
         return node
-
-
-class NoReaderError(FileError):
-    """There is no ruamel.yaml."""
-
-
-@lru_cache(maxsize=1)
-def look_for_reader() -> None:
-    """Says so where there is no ruamel.yaml. (The folders of packages are looked through once.)"""
-    if not importlib.util.find_spec("ruamel") or not importlib.util.find_spec("ruamel.yaml"):
-        raise NoReaderError("rule files need ruamel.yaml: install python3-ruamel.yaml, or `pip install ruamel.yaml`")
 
 
 def _compose(source: Source, text: ExactYaml) -> List[Any]:

@@ -11,7 +11,8 @@ import sys
 from array import array
 from bisect import bisect_left
 from contextlib import contextmanager
-from functools import cached_property
+from functools import cached_property, lru_cache
+from importlib.util import find_spec
 from typing import Iterator, List, NamedTuple, Optional, Tuple
 
 from .terminal import visible
@@ -100,6 +101,10 @@ BLANKS = " \t\r\n"
 # A longer line is shown in part.
 _LONGEST_LINE = 160
 _BYTE_ORDER_MARK = "\ufeff"
+# What is null in YAML where it is plain, and what is no text there, or may be more than one.
+NULLS = ("", "~", "null", "Null", "NULL")
+NO_TEXTS = frozenset((*NULLS, "<<", "="))
+_BLOCK_COMMENT = re.compile("[|>][-+0-9]*#")
 
 
 class FileError(Exception):
@@ -135,6 +140,36 @@ class BoundError(FileError):
 
 def nested_too_deeply(name: str) -> FileError:
     return FileError(f"{name}: nested too deeply")
+
+
+class NoReaderError(FileError):
+    """There is no ruamel.yaml."""
+
+
+@lru_cache(maxsize=1)
+def look_for_reader() -> None:
+    """Says so where there is no ruamel.yaml. (The folders of packages are looked through once.)"""
+    if not find_spec("ruamel") or not find_spec("ruamel.yaml"):
+        raise NoReaderError("rule files need ruamel.yaml: install python3-ruamel.yaml, or `pip install ruamel.yaml`")
+
+
+class Unclear(Exception):
+    """A quick reader does not take this text: where it is so, and why; there is none where it says nothing."""
+
+    def __init__(self, at: int = 0, why: str = "libyaml may read this otherwise") -> None:
+        self.at, self.why = at, why
+
+
+def surely(is_so: object) -> None:
+    """Raises where something is not surely so."""
+    if not is_so:
+        raise Unclear
+
+
+def is_usual(text: str) -> bool:
+    """Whether a text surely has nothing unusual (`quick_yaml`), which is seen sooner of most than what is there."""
+    begins_lines = text.startswith(("%", "...")) or "\n%" in text or "\n..." in text
+    return not begins_lines and text.replace("\n", "").isprintable() and ("#" not in text or not _BLOCK_COMMENT.search(text))
 
 
 class Fault(NamedTuple):
@@ -207,7 +242,7 @@ def _source(name: str, text: str) -> Source:
 def _read_bytes(name: str) -> bytes:
     """What a file has. A named pipe that nobody writes into has nothing, and is not waited for."""
     descriptor = os.open(name, os.O_RDONLY | os.O_NONBLOCK | os.O_CLOEXEC)
-    with open(descriptor, "rb") as file:
+    with open(descriptor, "rb", buffering=0) as file:
         os.set_blocking(descriptor, True)
         return file.read()
 

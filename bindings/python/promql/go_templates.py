@@ -75,15 +75,8 @@ def size_of(text: str) -> int:
     return sum(len(action.partition("}}")[0]) + _ACTION for action in actions)
 
 
-def check_template(text: str) -> None:
-    """Returns where Prometheus would take the text as the template of an alert, and else raises TemplateError."""
-    fault = _fault(text) if size_of(text) else ""
-    if fault:
-        raise TemplateError(fault)
-
-
 @lru_cache(maxsize=1024)
-def _fault(text: str) -> str:
+def fault_of(text: str) -> str:
     """What is wrong with a template, which may be that of many alerts; or nothing."""
     try:
         _Parser(list(_tokens(text))).parse()

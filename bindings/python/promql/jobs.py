@@ -7,6 +7,7 @@ import os
 import pickle
 import signal
 import sys
+from contextlib import suppress
 from functools import partial
 from itertools import chain
 from typing import Any, Callable, Iterable, Iterator, List, NamedTuple, Optional, Sequence, Tuple
@@ -200,9 +201,16 @@ def reports_of(targets: List[Target], work: Work, jobs: Optional[int]) -> Iterat
     jobs = min(jobs or 1 + len(targets) // _FILES_OF_JOB, len(targets), _MOST_JOBS if jobs else len(os.sched_getaffinity(0)))
     names = [target.name for target in targets]
     # (standard input is that of one process, and a file that is there twice is written once after the other)
-    alone = jobs == 1 or STDIN in names or len({os.path.realpath(name) for name in names}) < len(names)
+    alone = jobs == 1 or STDIN in names or len(set(map(_file_of, names))) < len(names)
     guarded = partial(_guarded, work)
     return map(guarded, targets) if alone else _in_processes(targets, guarded, jobs)
+
+
+def _file_of(name: str) -> Any:
+    """Which file has this name, or the name where there is none."""
+    with suppress(OSError):
+        return os.stat(name)[1:3]
+    return name
 
 
 def _in_processes(targets: List[Target], work: Work, jobs: int) -> Iterator[Report]:

@@ -8,7 +8,7 @@ from typing import FrozenSet, Iterator, List, NamedTuple, Sequence, Tuple
 
 from . import tree
 from .checked_queries import Document, take
-from .documents import Status, accepted, recorded_in
+from .documents import Status
 from .files import BoundError, counted
 from .jobs import Report, as_bytes
 from .lint.file_findings import FileLinter
@@ -17,6 +17,7 @@ from .lint.table import LIVE, Selection, help_of, name_of
 from .messages import ERROR, INFO, UNREAD, WARNING, Message, listed, of_server, placed
 from .prometheus_api import ApiError, PrometheusApi
 from .queries import Query
+from .rule_files import accepted, recorded_in
 from .terminal import visible
 
 NO_METRIC, NO_LABEL, NO_VALUE, NO_SERIES, MANY_SERIES, MANY_SAMPLES, READS = LIVE

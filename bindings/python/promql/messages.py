@@ -5,7 +5,6 @@ from __future__ import annotations
 
 import json
 import os
-from html import escape
 from typing import Any, Callable, Dict, Iterable, Iterator, List, NamedTuple, Optional, Sequence, Tuple
 
 import promql
@@ -270,6 +269,7 @@ def as_junit(command: str, told: List[Told]) -> str:
 
 
 def _cases(told: Told) -> Iterator[str]:
+    from html import escape
     if not any(told.failures):
         said = "".join(f"      <system-out>{escape(visible(_with_place(it)), False)}</system-out>\n" for it in told.messages)
         yield _case(told.file, told.file, said)
@@ -287,6 +287,7 @@ def _case(name: str, file: str, content: str) -> str:
 
 
 def _attribute(text: str) -> str:
+    from html import escape
     return f'"{escape(visible(text))}"'
 
 

@@ -11,11 +11,12 @@ import promql
 
 from .check_command import rejections
 from .checked_queries import Document
-from .documents import Status, Target, accepted, read_document, recorded_in, targets_of
+from .documents import Status, Target, read_document, targets_of
 from .jobs import Report, add_arguments, as_bytes, bounds_of, work_on
 from .messages import in_order, left_out, of_server, skipped_queries
 from .options import add_server_arguments
 from .prometheus_api import ApiError, PrometheusApi, api_of
+from .rule_files import accepted, recorded_in
 from .terminal import visible
 
 # What is used, by its kind: a selector names no metric, and what has variables of Grafana is not known.

@@ -5,22 +5,24 @@ What is rare in a file, or wrong, is left to `rule_files`, which finds its place
 
 from __future__ import annotations
 
-from importlib import import_module
+import re
 from typing import Any, Dict, Set
 
 from .checked_queries import Budget, Document, QueryChecker
-from .exact_yaml import look_for_reader
-from .files import BLANKS, Source, counted
-from .go_templates import TemplateError, check_template, size_of
-from .quick_yaml import Unclear, reader_of
-from .rule_checks import LABEL, METRIC, MOST_IN_TEMPLATES, is_duration
-from .rule_documents import is_logql
-from .scalars import NULLS, Scalar
+from .files import BLANKS, Source, counted, look_for_reader, surely
+from .token_texts import is_logql
 
-# A file with more nodes is read otherwise.
-_MOST_NODES = 1_000_000
-# Plain scalars that are no text, or may be more than one.
-_NO_TEXTS = frozenset((*NULLS, "<<", "="))
+LABEL = re.compile(r"[a-zA-Z_][a-zA-Z0-9_]*")
+METRIC = re.compile(r"[a-zA-Z_:][a-zA-Z0-9_:]*")
+DURATION = re.compile(r"(?:(\d+)y)?(?:(\d+)w)?(?:(\d+)d)?(?:(\d+)h)?(?:(\d+)m)?(?:(\d+)s)?(?:(\d+)ms)?", re.ASCII)
+MILLISECONDS = (31_536_000_000, 604_800_000, 86_400_000, 3_600_000, 60_000, 1_000, 1)
+# Durations of most rules.
+_USUAL = frozenset(f"{number}{unit}" for number in range(1, 61) for unit in "smhd")
+# The greatest whole number of rules, and of nanoseconds.
+LARGEST = 2**63 - 1
+MOST_DIGITS = 18
+# The most characters in the braces of templates that are looked at in a file, but for plain values.
+MOST_IN_TEMPLATES = 100_000
 # What is a text, a list and a mapping; one without names has those of labels.
 _LABELS: Dict[str, Any] = {}
 _RULE: Dict[str, Any] = {**dict.fromkeys(("record", "alert", "expr", "for", "keep_firing_for")), "labels": _LABELS, "annotations": _LABELS}
@@ -34,83 +36,56 @@ class RulesInOrder(Document):
     def __init__(self, source: Source, checker: QueryChecker) -> None:
         look_for_reader()
         super().__init__(source, checker)
-        _surely("expr" in source.text and "\t" not in source.text)
-        reader, yaml = reader_of(source.text), import_module("yaml")
-        self._take, self._scalar, self._ends = reader.get_event, yaml.ScalarEvent, (yaml.MappingEndEvent, yaml.SequenceEndEvent)
-        self._begins = {type(None): yaml.ScalarEvent, dict: yaml.MappingStartEvent, list: yaml.SequenceStartEvent}
-        self._nodes_left = min(checker.nodes_left, _MOST_NODES)
+        surely("expr" in source.text and "\t" not in source.text)
         self._templates = Budget(MOST_IN_TEMPLATES)
         self._rules: Set[Any] = set()
-        try:
-            # (a stream and a document begin, and at last both end)
-            self._take(), self._take()
-            self._look_at_groups(self._read(self._take(), _FILE))
-            _surely(self._take() and self._take() and not self._take())
-        except (yaml.YAMLError, TemplateError, ValueError, OverflowError) as error:
-            raise Unclear from error
-        finally:
-            reader.dispose()
+        # (PyYAML is imported where a file may be one of rules)
+        from .quick_yaml import ShapedYaml
+        self._look_at_groups(ShapedYaml(source.text, checker.nodes_left, _FILE).root)
         self.rule_count = len(self._rules)
 
     def summary(self) -> str:
         return counted(self.rule_count, "rule", "rules")
 
-    def _read(self, event: Any, shape: Any) -> Any:
-        """What begins with an event, which is to be of this shape, without anchors and tags. Its queries are looked at, too."""
-        _surely(type(event) is self._begins[type(shape)] and event.anchor is None and event.tag is None and self._nodes_left > 0)
-        self._nodes_left -= 1
-        if shape is None:
-            _surely(event.style or event.value not in _NO_TEXTS)
-            return event.value
-        take, scalar, items = self._take, self._scalar, []
-        if type(shape) is list:
-            while type(item := take()) is not self._ends[1]:
-                items.append(self._read(item, shape[0]))
-            return items
-        found: Dict[str, Any] = {}
-        while type(key := take()) is scalar:
-            self._nodes_left -= 1
-            name, value = key.value, take()
-            _surely(name not in found and key.anchor is None and key.tag is None)
-            _surely(name in shape or not shape and name != "__name__" and LABEL.fullmatch(name))
-            found[name] = self._read(value, shape.get(name))
-            if name == "expr" and shape:
-                self._look_at_query(key, value)
-        _surely(type(key) is self._ends[0])
-        return found
-
-    def _look_at_query(self, key: Any, value: Any) -> None:
-        query, style, start, end = value.value, value.style or "", value.start_mark.index, value.end_mark.index
-        text, quotes = self.source.text, len(style)
-        # (the characters of most are those of the file)
-        is_written = style not in ("|", ">") and text[start + quotes : end - quotes] == query and "\n" not in query
-        _surely(is_written or Scalar(text, start, end, start, style, False, 0).offsets(query) is not None)
-        _surely(text[key.end_mark.index] == ":" and not is_logql(query) and self.checker.accepts(query.rstrip(BLANKS)))
-
     def _look_at_groups(self, file: Any) -> None:
         names: Set[str] = set()
         for group in file.get("groups", ()):
             name = group.get("name")
-            _surely(name and name not in names and is_duration(group.get("interval", "1m")))
+            surely(name and name not in names and is_duration(group.get("interval", "1m")))
             names.add(name)
             for rule in group.get("rules", ()):
                 self._look_at_rule(rule)
-        _surely(self._rules)
+        surely(self._rules)
 
     def _look_at_rule(self, rule: Dict[str, Any]) -> None:
-        alert, labels = rule.get("alert"), rule.get("labels", {})
-        name = str(alert or rule.get("record", ""))
-        identity = name, frozenset(labels.items())
-        _surely(name and "expr" in rule and identity not in self._rules)
-        _surely("record" not in rule if alert else METRIC.fullmatch(name) and rule.keys() <= _OF_RECORD)
-        _surely(is_duration(rule.get("for", "1m")) and is_duration(rule.get("keep_firing_for", "1m")))
+        alert, labels, query = rule.get("alert"), rule.get("labels", _LABELS), rule.get("expr", "")
+        identity = str(alert or rule.get("record", "")), frozenset(labels.items())
+        surely(identity not in self._rules and not is_logql(query) and self.checker.accepts(query.rstrip(BLANKS)))
         self._rules.add(identity)
-        for text in (*labels.values(), *rule.get("annotations", {}).values()) if alert else ():
-            if "{{" in text and (size := size_of(text)):
-                _surely(self._templates.takes(size))
-                check_template(text)
+        if not alert:
+            surely(METRIC.fullmatch(identity[0]) and rule.keys() <= _OF_RECORD)
+            return
+        surely("record" not in rule and all(is_duration(rule[key]) for key in ("for", "keep_firing_for") if key in rule))
+        texts = (*labels.values(), *rule.get("annotations", _LABELS).values())
+        surely(not any("{{" in text and self._is_wrong(text) for text in texts))
+
+    def _is_wrong(self, template: str) -> bool:
+        from .go_templates import fault_of, size_of
+        size = size_of(template)
+        return size > 0 and (not self._templates.takes(size) or bool(fault_of(template)))
 
 
-def _surely(is_so: object) -> None:
-    if not is_so:
-        raise Unclear
+def is_duration(text: str) -> bool:
+    """Whether Prometheus takes a text as the duration of a rule."""
+    return text in _USUAL or 0 <= nanoseconds(text) <= LARGEST
+
+
+def nanoseconds(text: str) -> int:
+    """The length of a duration, or one that is too long; less than nothing for a text that is none."""
+    found = DURATION.fullmatch(text)
+    if not text or not found:
+        return -1
+    numbers = [(number or "0").lstrip("0") for number in found.groups()]
+    if max(map(len, numbers)) > MOST_DIGITS:
+        return LARGEST + 1
+    return sum(int(number or 0) * unit for number, unit in zip(numbers, MILLISECONDS)) * 1_000_000

@@ -9,19 +9,20 @@ from __future__ import annotations
 import importlib
 import re
 from bisect import bisect_right
+from contextlib import suppress
 from functools import lru_cache
 from typing import Any, Dict, List, Match, Tuple
 
 from .checked_queries import FileBounds
-from .files import BoundError, Source
-from .scalars import Node, Token
+from .files import NO_TEXTS, BoundError, Source, Unclear, is_usual, surely
+from .quick_rules import LABEL
+from .scalars import Node, Scalar, Token
 
 # What libyaml, which reads YAML 1.1, may take otherwise: the line ends of Unicode, and what is not printed; directives, ends of documents,
 # and a comment at once after the sign of a block.
-_UNUSUAL = re.compile("[\0-\b\v\f\x0e-\x1f\x7f-\x9f\u2028\u2029\ud800-\udfff\ufeff\ufffe\uffff]" r"|(?:^|\r)(?:%|\.\.\.)|[|>][-+0-9]*#", re.M)
-_BLOCK_COMMENT = re.compile("[-+0-9|>]#")
+_UNUSUAL = "(?m)[\0-\b\v\f\x0e-\x1f\x7f-\x9f\u2028\u2029\ud800-\udfff\ufeff\ufffe\uffff]" r"|(?:^|\r)(?:%|\.\.\.)|[|>][-+0-9]*#"
 # Where a text may begin with a directive: it says what is so without it.
-_DIRECTIVE = re.compile(r"%YAML 1\.2 *(?:\n|\r\n?)(?=--- *[\n\r])")
+_DIRECTIVE = r"%YAML 1\.2 *(?:\n|\r\n?)(?=--- *[\n\r])"
 # Tags with a meaning for these tools, by which both readers call a value. Most have no effect.
 _TAGS = frozenset(f"tag:yaml.org,2002:{name}" for name in "str int float bool timestamp null seq map".split())
 _MOST_LEVELS = 100
@@ -31,19 +32,11 @@ _AFTER_NAMES = ("", " ", "\n", "\r", ",", "]", "}")
 _VALUE = re.compile(r"[ \r\n]*:")
 
 
-class Unclear(Exception):
-    """The quick reader does not take this text: where it is so, and why; there is none where it says nothing."""
-
-    def __init__(self, at: int = 0, why: str = "libyaml may read this otherwise") -> None:
-        self.at, self.why = at, why
-
-
 class QuickYaml:
     """A text as libyaml reads it, where nothing in it is unusual."""
 
     def __init__(self, source: Source, most_nodes: int = FileBounds().max_file_nodes) -> None:
-        reader = reader_of(source.text)
-        self._text = source.text
+        reader, self._text = _reader_of(source.text), source.text
         composer = _Composer(source, most_nodes)
         self.roots = composer.documents(reader)
         self.has_aliases = composer.has_aliases
@@ -60,48 +53,39 @@ class QuickYaml:
         start, sign = value.start, _VALUE.match(self._text, key.end)
         # (what an alias stands for is before its key, and has an anchor)
         is_alias = start < key.start and value.anchor
-        if not is_alias and (key.anchor or key.tag or not sign or sign.end() > start):
-            raise Unclear
+        surely(is_alias or not key.anchor and not key.tag and sign and sign.end() <= start)
         before = sign.end() if sign else start
         for _ in filter(None, (value.anchor, value.tag)):
             part = _PROPERTY.match(self._text, start)
             if not part:
                 raise Unclear
             before, start = start + len(part[0].rstrip(" \r\n")), part.end()
-        if self._text[start : start + 1] in ("#", "&", "!"):
-            raise Unclear
+        surely(self._text[start : start + 1] not in ("#", "&", "!"))
         return Token(start, before, value.in_flow)
 
 
 quick_yaml = lru_cache(maxsize=1)(QuickYaml)
 
 
-def reader_of(text: str) -> Any:
+@lru_cache(maxsize=None)
+def _loader() -> Any:
+    """The class of PyYAML that calls libyaml, or nothing where there is none."""
+    with suppress(ImportError):
+        return getattr(importlib.import_module("yaml"), "CSafeLoader", None)
+    return None
+
+
+def _reader_of(text: str) -> Any:
     """The reader of PyYAML that calls libyaml, for a text in which nothing is unusual."""
     loader = _loader()
     if not loader:
         raise Unclear(0, "")
-    if not _is_usual(text):
-        directive = _DIRECTIVE.match(text)
-        unusual = _UNUSUAL.search(text, directive.end() if directive else 0)
-        if unusual:
+    if not is_usual(text):
+        # (these patterns take long to compile, and most texts are usual)
+        directive = re.match(_DIRECTIVE, text)
+        if unusual := re.compile(_UNUSUAL).search(text, directive.end() if directive else 0):
             raise Unclear(unusual.start())
     return loader(text)
-
-
-def _is_usual(text: str) -> bool:
-    """Whether a text surely has nothing unusual, which is seen sooner of most than what is there."""
-    begins_lines = text.startswith(("%", "...")) or "\n%" in text or "\n..." in text
-    return not begins_lines and text.replace("\n", "").isprintable() and ("#" not in text or not _BLOCK_COMMENT.search(text))
-
-
-@lru_cache(maxsize=None)
-def _loader() -> Any:
-    """The class of PyYAML that calls libyaml, or nothing where there is none."""
-    try:
-        return getattr(importlib.import_module("yaml"), "CSafeLoader", None)
-    except ImportError:
-        return None
 
 
 # White space that has a TAB.
@@ -185,9 +169,7 @@ class _Composer:
 
     def _add_scalar(self, event: Any) -> None:
         # (`=` is a value of its own in YAML 1.1; a block that is the whole document ends elsewhere)
-        is_unusual = event.value == "=" if not event.style else event.style in "|>" and not self._open
-        if is_unusual:
-            raise Unclear
+        surely(event.style not in ("|", ">") or self._open if event.style else event.value != "=")
         node = self._add("scalar", event.value, event.style or "", event)
         self.scalars.append((node.start, node.end, node.style))
 
@@ -199,8 +181,7 @@ class _Composer:
         self._put(node, start.index)
         if anchor:
             # (there is a tag before it where it is not here)
-            if self._text[start.index] != "&":
-                raise Unclear
+            surely(self._text[start.index] == "&")
             self._look_after(start.index + 1 + len(anchor))
             self._anchors[anchor] = node
         return node
@@ -214,12 +195,10 @@ class _Composer:
 
     def _look_after(self, end: int) -> None:
         """Looks whether a name ends here, which may have more characters to others than to libyaml."""
-        if self._text[end : end + 1] not in _AFTER_NAMES:
-            raise Unclear
+        surely(self._text[end : end + 1] in _AFTER_NAMES)
 
     def _begin(self, event: Any) -> None:
-        if len(self._open) == _MOST_LEVELS:
-            raise Unclear
+        surely(len(self._open) < _MOST_LEVELS)
         kind = "mapping" if type(event).__name__ == "MappingStartEvent" else "sequence"
         self._open.append(self._add(kind, [], "{" if event.flow_style else "", event))
         self._flows += bool(event.flow_style)
@@ -237,3 +216,63 @@ class _Composer:
         self._look_after(event.end_mark.index)
         self._put(node, event.start_mark.index)
         self.has_aliases = True
+
+
+class ShapedYaml:
+    """What a text says that is of a shape (`quick_rules`), without anchors and tags. Raises Unclear where that is not sure."""
+
+    def __init__(self, text: str, most_nodes: int, shape: Any) -> None:
+        reader, yaml = _reader_of(text), importlib.import_module("yaml")
+        self._text, self._take, self._nodes_left = text, reader.get_event, most_nodes
+        self._scalar = yaml.ScalarEvent
+        self._begins: Any = {dict: yaml.MappingStartEvent, list: yaml.SequenceStartEvent}
+        self._ends: Any = {dict: yaml.MappingEndEvent, list: yaml.SequenceEndEvent}
+        try:
+            # (a stream and a document begin, and at last both end)
+            self._take(), self._take()
+            self.root = self._read(self._take(), shape)
+            surely(self._take() and self._take() and not self._take())
+        except (yaml.YAMLError, ValueError, OverflowError) as error:
+            raise Unclear from error
+        finally:
+            reader.dispose()
+
+    def _read(self, event: Any, shape: Any) -> Any:
+        """What begins with an event that is to be a list or a mapping."""
+        surely(type(event) is self._begins.get(type(shape)) and not event.anchor and not event.tag)
+        self._nodes_left -= 1
+        surely(self._nodes_left >= 0)
+        if type(shape) is dict:
+            return self._read_mapping(shape)
+        items, end = [], self._ends[list]
+        while type(item := self._take()) is not end:
+            items.append(self._read(item, shape[0]))
+        return items
+
+    def _read_mapping(self, shape: Dict[str, Any]) -> Dict[str, Any]:
+        # (most of the time is spent here, so little is called for each key)
+        found: Dict[str, Any] = {}
+        take, scalar = self._take, self._scalar
+        while type(key := take()) is scalar:
+            name, value = key.value, take()
+            is_named = name in shape if shape else name != "__name__" and LABEL.fullmatch(name)
+            if not is_named or name in found or key.anchor or key.tag or len(found) > self._nodes_left:
+                raise Unclear
+            if type(value) is not scalar:
+                found[name] = self._read(value, shape.get(name))
+            elif shape.get(name) is not None or value.anchor or value.tag or not value.style and value.value in NO_TEXTS:
+                raise Unclear
+            else:
+                found[name] = value.value
+                if name == "expr" and shape:
+                    self._look_at_places(key, value)
+        self._nodes_left -= len(found) + sum(type(it) is str for it in found.values())
+        surely(type(key) is self._ends[dict] and self._nodes_left >= 0)
+        return found
+
+    def _look_at_places(self, key: Any, value: Any) -> None:
+        """Looks whether each character of a query has a place, which is the same one in most files."""
+        query, style, start, end = value.value, value.style or "", value.start_mark.index, value.end_mark.index
+        is_written = "\n" not in query and self._text[start + len(style) : end - len(style)] == query
+        surely(is_written or Scalar(self._text, start, end, start, style, False, 0).offsets(query) is not None)
+        surely(self._text[key.end_mark.index] == ":")

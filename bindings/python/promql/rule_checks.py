@@ -7,11 +7,12 @@ lists.
 from __future__ import annotations
 
 import re
-from typing import Dict, FrozenSet, Iterator, List, Match, Optional, Set, Tuple
+from typing import Dict, FrozenSet, Iterator, List, Optional, Set, Tuple
 
 from .checked_queries import Budget
 from .files import Fault
-from .go_templates import TemplateError, check_template, size_of
+from .go_templates import fault_of, size_of
+from .quick_rules import LABEL, LARGEST, METRIC, MOST_DIGITS, MOST_IN_TEMPLATES, nanoseconds
 from .scalars import Mappings, Node
 
 # `query_offset` and `labels` of a group are of later versions than 2.42, `partial_response_strategy` is of Thanos, and what follows it
@@ -31,23 +32,10 @@ _OBJECT_FIELDS = {
 # The keys about which the reader of rules complains itself where they are there twice.
 LOOKED_AT = ("groups", "rules", "expr")
 
-LABEL = re.compile(r"[a-zA-Z_][a-zA-Z0-9_]*")
-METRIC = re.compile(r"[a-zA-Z_:][a-zA-Z0-9_:]*")
 SURROGATE = re.compile("[\ud800-\udfff]")
-DURATION = re.compile(r"(?:(\d+)y)?(?:(\d+)w)?(?:(\d+)d)?(?:(\d+)h)?(?:(\d+)m)?(?:(\d+)s)?(?:(\d+)ms)?", re.ASCII)
-MILLISECONDS = (31_536_000_000, 604_800_000, 86_400_000, 3_600_000, 60_000, 1_000, 1)
-# Durations of most rules.
-_USUAL = frozenset(f"{number}{unit}" for number in range(1, 61) for unit in "smhd")
-# In nanoseconds.
-_LONGEST = 2**63 - 1
-_MOST_DIGITS = 18
 _NUMBER = re.compile(
     r"[-+]?(?:[0-9][0-9_]*(?:\.[0-9_]*)?|\.[0-9][0-9_]*)(?:[eE][-+]?[0-9]+)?|[-+]?0(?:x[0-9a-fA-F_]+|o[0-7_]+|b[01_]+)"
 )
-_LARGEST = 2**63 - 1
-
-# The most characters in the braces of templates that are looked at in a file, but for plain values.
-MOST_IN_TEMPLATES = 100_000
 
 # The name of a rule, and its labels.
 _Identity = Tuple[str, FrozenSet[Tuple[str, str]]]
@@ -202,15 +190,14 @@ class RuleChecks:
             self._look_at_template(value)
 
     def _look_at_template(self, value: Node) -> None:
-        was_left = self._templates.takes(0)
-        try:
-            if self._templates.takes(size_of(value.value)):
-                check_template(value.value)
-            elif was_left:
-                most = f"{self._templates.most:,} characters in braces"
-                self._complain(value, f"not looked at from here on: the templates of the file have more than {most}")
-        except TemplateError as error:
-            self._complain(value, f"not a template: {error}")
+        size, was_left = size_of(value.value), self._templates.takes(0)
+        if self._templates.takes(size):
+            fault = fault_of(value.value) if size else ""
+            if fault:
+                self._complain(value, f"not a template: {fault}")
+        elif was_left:
+            most = f"{self._templates.most:,} characters in braces"
+            self._complain(value, f"not looked at from here on: the templates of the file have more than {most}")
 
     def _duration(self, owner: Node, key: str) -> int:
         """The nanoseconds of a duration; 0 for none, and for what is no duration, of which it complains."""
@@ -218,14 +205,11 @@ class RuleChecks:
         if not value or value.is_null():
             return 0
         text = value.value if value.is_scalar() else ""
-        found = DURATION.fullmatch(text) if text else None
-        if text == "0":
-            return 0
-        if not found:
+        length = 0 if text == "0" else nanoseconds(text)
+        if length < 0:
             self._complain(value if text else self._place(owner, key), f"`{key}` is not a duration")
             return 0
-        length = _nanoseconds(found)
-        if length > _LONGEST:
+        if length > LARGEST:
             self._complain(value, f"`{key}` is longer than 292 years")
         return length
 
@@ -250,20 +234,6 @@ def mappings_in(node: Optional[Node]) -> List[Node]:
     return [item for item in node.value if item.kind == "mapping"] if node and node.kind == "sequence" else []
 
 
-def is_duration(text: str) -> bool:
-    """Whether Prometheus takes a text as the duration of a rule."""
-    found = None if text in _USUAL else DURATION.fullmatch(text)
-    return text in _USUAL or bool(text and found and _nanoseconds(found) <= _LONGEST)
-
-
-def _nanoseconds(duration: Match[str]) -> int:
-    """The length of a duration, or one that is too long."""
-    numbers = [(number or "0").lstrip("0") for number in duration.groups()]
-    if max(map(len, numbers)) > _MOST_DIGITS:
-        return _LONGEST + 1
-    return sum(int(number or 0) * unit for number, unit in zip(numbers, MILLISECONDS)) * 1_000_000
-
-
 def _is_number(node: Node) -> bool:
     """Whether Prometheus reads a whole number: it takes one with a fraction, and leaves that out."""
     if not node.is_scalar() or node.style or not _NUMBER.fullmatch(node.value):
@@ -271,9 +241,9 @@ def _is_number(node: Node) -> bool:
     text = node.value.replace("_", "")
     try:
         if text.lstrip("+-")[:2] in ("0x", "0o", "0b"):
-            return -_LARGEST - 1 <= int(text, 0) <= _LARGEST
-        if text.lstrip("+-").isdecimal() and len(text) <= _MOST_DIGITS + 2:
-            return int(text) <= _LARGEST
-        return float(text) <= _LARGEST
+            return -LARGEST - 1 <= int(text, 0) <= LARGEST
+        if text.lstrip("+-").isdecimal() and len(text) <= MOST_DIGITS + 2:
+            return int(text) <= LARGEST
+        return float(text) <= LARGEST
     except ValueError:
         return False

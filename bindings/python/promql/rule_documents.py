@@ -6,7 +6,6 @@ from enum import Enum
 from typing import Iterator, List, NamedTuple, Optional, Sequence, Set
 
 from .scalars import Mappings, Node
-from .token_texts import code_of
 
 
 class Kind(Enum):
@@ -60,21 +59,6 @@ _NO_GROUPS = "this is no rule file: it has no `groups`"
 _RULES_END, _BOARD_END = (".yml", ".yaml", ".rules", ".rule"), ("json",)
 # Of a list so many items at most tell what it is.
 _MOST_ITEMS = 100
-
-# What is after a selector of LogQL, and nowhere in PromQL: a filter of lines, or a stage.
-_FILTERS = tuple(sign + quote for sign in ("|=", "|~", "|>", "!=", "!~", "!>") for quote in '"`')
-_STAGES = "json logfmt regexp pattern unpack unwrap line_format label_format decolorize drop keep distinct".split()
-
-
-def is_logql(query: str) -> bool:
-    """Whether a query is surely of Loki, and not of Prometheus."""
-    rest = query.partition("}")[2]
-    if "{" not in query or "|" not in rest and "!" not in rest:
-        # (no filter and no stage is after braces)
-        return False
-    tokens = [token.text for token in code_of(query)]
-    after = (tokens[number : number + 3] for number, text in enumerate(tokens, 1) if text == "}")
-    return any("".join(it).startswith(_FILTERS) or it[:1] == ["|"] and it[1:2] and it[1] in _STAGES for it in after)
 
 
 def documents_of(root: Node, mappings: Mappings, looks_inside: bool = True) -> Iterator[RuleDocument]:

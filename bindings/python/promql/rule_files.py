@@ -9,20 +9,20 @@ from array import array
 from functools import partial
 from importlib import import_module
 from itertools import chain, islice
-from typing import Callable, Dict, Iterator, List, Optional, Sequence, Tuple, Union
+from typing import Callable, Dict, FrozenSet, Iterator, List, Optional, Sequence, Tuple, Union
 
 from . import limits
 from .checked_queries import NO_BOUND, Document, PlacedFile, QueryChecker
-from .exact_yaml import ExactYaml, look_for_reader
-from .files import BoundError, Fault, FileError, Source, counted, nested_too_deeply
+from .documents import BOARDS
+from .exact_yaml import ExactYaml
+from .files import BoundError, Fault, FileError, Source, Unclear, counted, look_for_reader, nested_too_deeply
 from .queries import Query, SameQuery
-from .quick_yaml import QuickYaml, Unclear, quick_yaml
+from .quick_yaml import QuickYaml, quick_yaml
 from .rule_checks import LOOKED_AT, RuleChecks, mappings_in
-from .rule_documents import WITH_QUERIES, Kind, RuleDocument, documents_of, is_board, is_logql, is_surely_of_rules
+from .rule_documents import WITH_QUERIES, Kind, RuleDocument, documents_of, is_board, is_surely_of_rules
 from .scalars import Entry, Mappings, Node, Scalar
+from .token_texts import is_logql
 
-# The module of dashboards, which is imported where there are some.
-BOARDS = "promql.dashboards"
 # The parts of a rule file that are in one, by the key; in a list it is None. What is unknown in a document may have groups as well.
 _PARTS = {
     ("document", "tests"): "tests", ("tests", None): "test", ("test", "promql_expr_test"): "queries", ("queries", None): "rule",
@@ -342,3 +342,18 @@ def _same(old_root: Node, new_root: Node, same_query: SameQuery) -> bool:
             seen.add((part, id(old), id(new)))
             todo += zip(_children(part, old), new.value if new.kind == "sequence" else chain.from_iterable(new.value))
     return True
+
+
+def accepted(document: Document) -> Iterator[Query]:
+    """The queries that are looked at and accepted, but for those of unit tests."""
+    if isinstance(document, RuleFile) and any(it.kind is Kind.TESTS for it in document.documents):
+        return iter(())
+    checker = document.checker
+    return (it for it in document.queries if not it.skipped and checker.admits(it.text) and not checker.error(it.text))
+
+
+def recorded_in(document: Document) -> FrozenSet[str]:
+    """The metrics that the rules of a file record, with those of its texts that are files."""
+    files = document.files() if isinstance(document, RuleFile) else []
+    names = (file.mappings.name(rule, "record") for file in files for rule in file.rules())
+    return frozenset(filter(None, names))

@@ -8,11 +8,10 @@ import sys
 from array import array
 from typing import Any, Callable, Dict, FrozenSet, Iterable, Iterator, List, Match, NamedTuple, Optional, Sequence, Set, Tuple
 
-from .files import BLANKS, BREAK, FileError
+from .files import BLANKS, BREAK, NULLS, FileError
 from .queries import Edit, PlacedText
 
 TEXT_TAGS = {f"tag:yaml.org,2002:{name}" for name in ("str", "int", "float", "bool", "timestamp")}
-NULLS = ("", "~", "null", "Null", "NULL")
 _NULL_TAG = "tag:yaml.org,2002:null"
 
 

@@ -81,7 +81,7 @@ class TeamSettings(NamedTuple):
     def _matches(self, name: str, patterns: List[str]) -> bool:
         """Whether a file is meant by one of these patterns: its path below the folder of the settings, or for a pattern without a
         stroke the name of it or of a folder of it."""
-        path = os.path.relpath(os.path.abspath(name), os.path.dirname(os.path.abspath(self.file)))
+        path = os.path.relpath(os.path.abspath(name), os.path.dirname(os.path.abspath(self.file))) if patterns else ""
         parts = path.split(os.sep)
         return any(
             fnmatchcase(path, pattern) or "/" not in pattern and any(fnmatchcase(part, pattern) for part in parts)

@@ -9,6 +9,9 @@ import promql
 
 # The operators of matchers.
 MATCHER_SIGNS = ("=", "!=", "=~", "!~")
+# What is after a selector of LogQL, and nowhere in PromQL: a filter of lines, or a stage.
+_FILTERS = tuple(sign + quote for sign in ("|=", "|~", "|>", "!=", "!~", "!>") for quote in '"`')
+_STAGES = "json logfmt regexp pattern unpack unwrap line_format label_format decolorize drop keep distinct".split()
 
 
 class Token(NamedTuple):
@@ -96,3 +99,14 @@ def token_at(tokens: Sequence[Token], offset: int) -> int:
 def string_content(token: Token) -> Tuple[int, int]:
     """Where the text of a string begins and ends, without its quotes."""
     return token.start + 1, max(token.end - (not token.is_open), token.start + 1)
+
+
+def is_logql(query: str) -> bool:
+    """Whether a query is surely of Loki, and not of Prometheus."""
+    rest = query.partition("}")[2] if "{" in query else ""
+    if "|" not in rest and "!" not in rest:
+        # (no filter and no stage is after braces)
+        return False
+    tokens = [token.text for token in code_of(query)]
+    after = (tokens[number : number + 3] for number, text in enumerate(tokens, 1) if text == "}")
+    return any("".join(it).startswith(_FILTERS) or it[:1] == ["|"] and it[1:2] and it[1] in _STAGES for it in after)

@@ -10,7 +10,7 @@ from unittest import mock
 import promql
 from command_line import run
 from promql.dashboards import JsonString
-from promql.exact_yaml import look_for_reader
+from promql.files import look_for_reader
 from promql.queries import Edit
 
 HERE = Path(__file__).resolve().parent

@@ -10,9 +10,8 @@ import test_quick_yaml
 from command_line import run
 from promql import documents
 from promql.checked_queries import FileBounds, QueryChecker
-from promql.files import Source
+from promql.files import Source, Unclear
 from promql.quick_rules import RulesInOrder
-from promql.quick_yaml import Unclear
 from rule_verdicts import RULES
 from test_quick_yaml import PIECES, RANDOM
 from test_rule_files import PLACES, RULE, Folder, file_of

@@ -13,7 +13,7 @@ from unittest import mock
 import rule_verdicts
 from command_line import run
 from promql import quick_yaml
-from promql.go_templates import TemplateError, check_template
+from promql.go_templates import fault_of
 from rule_verdicts import AFTER_ALERT, DIFFERENT, FILES, NO_TEMPLATES, RULES, TEMPLATES, file_at_random
 from syntax_errors import NO_OPERAND
 from test_rule_files import NO_QUERY, Folder, aliases
@@ -42,11 +42,7 @@ def rejected(paths):
 
 
 def takes(template):
-    try:
-        check_template(template)
-    except TemplateError:
-        return False
-    return True
+    return not fault_of(template)
 
 
 def alerts(templates):

@@ -11,7 +11,8 @@ import promql
 
 from ..checked_queries import Budget, Store, take
 from ..files import BoundError
-from ..rule_checks import DURATION, MILLISECONDS, mappings_in
+from ..quick_rules import DURATION, MILLISECONDS
+from ..rule_checks import mappings_in
 from ..rule_documents import Kind
 from ..rule_files import RuleFile
 from ..scalars import Mappings, Node

@@ -10,9 +10,8 @@ from typing import Any, Dict, Iterable, Iterator, List, NamedTuple, Optional, Se
 import promql
 
 from ..documents import targets_of
-from ..files import FileError, read_source
+from ..files import NULLS, FileError, read_source
 from ..queries import Edit, edited
-from ..scalars import NULLS
 from .documents import TOO_LARGE, Document
 from .layout import LeftError
 from .messages import INVALID_PARAMS, REQUEST_FAILED, ProtocolError
