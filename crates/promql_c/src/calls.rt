@@ -13,19 +13,20 @@ ghost use Rattle.promql_c.specs.PlacesText.{IsPlacesText};
 ghost use Rattle.promql_lines.specs.WindowsText.{IsConstantText};
 
 use crate::call_result::{CallResult, show, show_enforced, show_text};
-use crate::collecting::collect_query;
-use crate::differing::difference_query;
+use crate::collecting::CollectCall;
+use crate::differing::DifferencesCall;
 use crate::enforcing::enforce_query;
 use crate::explaining::explain_query;
 use crate::formatting::format_bytes;
 use crate::modes::{format_of, mode_of};
-use crate::placing::{part_query, place_query};
-use crate::printing::{check_query, mark_query, print_query};
-use crate::reaching::reach_query;
+use crate::placing::{PartsCall, PlacesCall};
+use crate::printing::{CheckCall, mark_query, print_query};
+use crate::reaching::ReachesCall;
 use crate::reading::may_read_query;
 use crate::renaming::{named_of, rename_query};
-use crate::timing::{constant_query, last_read_query, pin_query, window_query};
+use crate::timing::{ConstantCall, LastReadCall, PinnedCall, WindowsCall};
 use crate::tokens::token_texts;
+use crate::tree_call::tell_query;
 use crate::tree_printing::print_form;
 use promql_formatter::FormatOptions;
 use promql_lines::mode::Mode;
@@ -103,7 +104,7 @@ pub fn rename(
 pub fn collect(alloc: Global, limits: &Limits, query: &[u8], buffer: &mut [u8]) -> CallResult
     ensures { ShowsSome (IsTextOf IsCollectedText limits.now query.now) result buffer.old buffer.new }
 {
-    let made = collect_query(alloc, limits, query);
+    let made = tell_query(&CollectCall, alloc, limits, query);
     show(alloc, made, buffer)
 }
 
@@ -111,7 +112,7 @@ pub fn collect(alloc: Global, limits: &Limits, query: &[u8], buffer: &mut [u8]) 
 pub fn places(alloc: Global, limits: &Limits, query: &[u8], buffer: &mut [u8]) -> CallResult
     ensures { ShowsSome (IsTextOf (IsPlacesText query.now) limits.now query.now) result buffer.old buffer.new }
 {
-    let made = place_query(alloc, limits, query);
+    let made = tell_query(&PlacesCall, alloc, limits, query);
     show(alloc, made, buffer)
 }
 
@@ -119,7 +120,7 @@ pub fn places(alloc: Global, limits: &Limits, query: &[u8], buffer: &mut [u8]) -
 pub fn parts(alloc: Global, limits: &Limits, query: &[u8], buffer: &mut [u8]) -> CallResult
     ensures { ShowsSome (IsTextOf (IsPartsText query.now) limits.now query.now) result buffer.old buffer.new }
 {
-    let made = part_query(alloc, limits, query);
+    let made = tell_query(&PartsCall, alloc, limits, query);
     show(alloc, made, buffer)
 }
 
@@ -136,7 +137,12 @@ pub fn tokens(alloc: Global, limits: &Limits, text: &[u8], buffer: &mut [u8]) ->
 pub fn differences(alloc: Global, limits: &Limits, query: &[u8], buffer: &mut [u8]) -> CallResult
     ensures { ShowsSome (IsTextOf (λ t. IsFindingsText limits.now query.now) (for_rules limits.now) query.now) result buffer.old buffer.new }
 {
-    let made = difference_query(alloc, limits, query);
+    let made = tell_query(
+        &DifferencesCall { limits },
+        alloc,
+        &limits.for_rules(),
+        query,
+    );
     show(alloc, made, buffer)
 }
 
@@ -150,7 +156,7 @@ pub fn windows(
 ) -> CallResult
     ensures { ShowsSome (IsWindowsOf limits.now times.now query.now) result buffer.old buffer.new }
 {
-    let made = window_query(alloc, limits, times, query);
+    let made = tell_query(&WindowsCall { times }, alloc, limits, query);
     show(alloc, made, buffer)
 }
 
@@ -164,7 +170,7 @@ pub fn reaches(
 ) -> CallResult
     ensures { ShowsSome (IsReachesOf limits.now times.now query.now) result buffer.old buffer.new }
 {
-    let made = reach_query(alloc, limits, times, query);
+    let made = tell_query(&ReachesCall { times }, alloc, limits, query);
     show(alloc, made, buffer)
 }
 
@@ -180,7 +186,7 @@ pub fn last_read(
 ) -> CallResult
     ensures { ShowsSome (IsLastReadOf limits.now times.now time query.now) result buffer.old buffer.new }
 {
-    let made = last_read_query(alloc, limits, times, time, query);
+    let made = tell_query(&LastReadCall { times, time }, alloc, limits, query);
     show(alloc, made, buffer)
 }
 
@@ -196,7 +202,7 @@ pub fn pinned(
 ) -> CallResult
     ensures { ShowsSome (IsPinnedOf limits.now start end query.now) result buffer.old buffer.new }
 {
-    let made = pin_query(alloc, limits, start, end, query);
+    let made = tell_query(&PinnedCall { start, end }, alloc, limits, query);
     show(alloc, made, buffer)
 }
 
@@ -204,7 +210,7 @@ pub fn pinned(
 pub fn is_constant(alloc: Global, limits: &Limits, query: &[u8], buffer: &mut [u8]) -> CallResult
     ensures { ShowsSome (IsTextOf IsConstantText limits.now query.now) result buffer.old buffer.new }
 {
-    let made = constant_query(alloc, limits, query);
+    let made = tell_query(&ConstantCall, alloc, limits, query);
     show(alloc, made, buffer)
 }
 
@@ -227,7 +233,7 @@ pub fn may_read(
 pub fn check(alloc: Global, limits: &Limits, query: &[u8], buffer: &mut [u8]) -> CallResult
     ensures { ShowsSome (IsTextOf (λ t text. text ≡ []) limits.now query.now) result buffer.old buffer.new }
 {
-    let made = check_query(alloc, limits, query);
+    let made = tell_query(&CheckCall, alloc, limits, query);
     show(alloc, made, buffer)
 }
 

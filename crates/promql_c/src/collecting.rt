@@ -3,21 +3,19 @@
 ghost use Rattle.std.specs.Prelude.{◌≡◌, IfOk, map, option_map, string_bytes};
 ghost use Rattle.std.specs.Duration.{as_nanos};
 ghost use Rattle.serde_json.specs.View.{view};
-ghost use Rattle.promql_grammar.specs.Results.{on_result};
 ghost use Rattle.promql_ast.specs.Shifts.{moment_of, shift_of};
 ghost use Rattle.promql_ast.specs.View.{tree_of};
 ghost use Rattle.promql_rewrite.specs.Collecting.{selected_of};
-ghost use Rattle.promql_lines.specs.QueryErrors.{Gives, OfTree};
-ghost use Rattle.promql_c.specs.Calls.{IsTextOf};
+ghost use Rattle.promql_lines.specs.QueryErrors.{Gives};
 ghost use Rattle.promql_c.specs.CollectedJson as spec;
 ghost use Rattle.promql_lines.specs.Batch as batch;
 ghost use Rattle.promql_c.specs.CollectedParts as part;
 ghost use Rattle.promql_c.specs.CollectedTexts.{IsCollectedText};
 
-use promql_ast::{AtModifier, Expr, Offset, drop_expr};
+use crate::tree_call::TreeCall;
+use promql_ast::{AtModifier, Expr, Offset};
 use promql_lines::finite_json::value_text;
 use promql_lines::query_error::QueryError;
-use promql_lines::query_tree::query_tree;
 use promql_rewrite::{Collected, CollectedSelector, collect};
 use promql_span::limits::Limits;
 use promql_text::display_duration;
@@ -121,32 +119,23 @@ fn collected_text(alloc: Global, expr: &Expr) -> Result<String, AllocError>
     value_text(alloc, value?)
 }
 
-/// The JSON of what a text's query names.
-fn collect_text(alloc: Global, limits: &Limits, query: &str) -> Result<String, QueryError>
-    ensures { OfTree limits.now query.now (λ t. Gives (IsCollectedText t) (λ e. ⊥)) (on_result (λ s. string_bytes s) result) }
-{
-    let expr = match query_tree(alloc, limits, query) {
-        Ok(expr) => expr,
-        Err(error) => return Err(error),
-    };
-    let text = collected_text(alloc, &expr);
-    drop_expr(expr);
-    match text {
-        Ok(text) => Ok(text),
-        Err(_) => Err(QueryError::Memory),
-    }
-}
+/// `calls::collect`.
+#[derive(Clone, Copy)]
+pub(crate) struct CollectCall;
 
-/// The JSON of what a query names.
-pub(crate) fn collect_query(
-    alloc: Global,
-    limits: &Limits,
-    query: &[u8],
-) -> Result<String, QueryError>
-    ensures { IsTextOf IsCollectedText limits.now query.now (on_result (λ s. string_bytes s) result) }
-{
-    let Ok(query) = str::from_utf8(query) else {
-        return Err(QueryError::NotUtf8);
-    };
-    collect_text(alloc, limits, query)
+impl TreeCall for CollectCall {
+    ghost tells = { λ call limits query t. Gives (IsCollectedText t) (λ e. ⊥) };
+
+    fn tell(
+        &self,
+        alloc: Global,
+        _limits: &Limits,
+        _query: &str,
+        expr: &Expr,
+    ) -> Result<String, QueryError> {
+        match collected_text(alloc, expr) {
+            Ok(text) => Ok(text),
+            Err(_) => Err(QueryError::Memory),
+        }
+    }
 }

@@ -3,19 +3,16 @@
 ghost use Rattle.std.specs.Prelude.{◌≡◌, IfOk, List, map, string_bytes};
 ghost use Rattle.serde_json.specs.View.{view};
 ghost use Rattle.serde_json.specs.Written.{compact_text};
-ghost use Rattle.promql_grammar.specs.Results.{on_result};
 ghost use Rattle.promql_json.specs.JsonParts.{list};
 ghost use Rattle.promql_text.specs.Texts.{Text};
-ghost use Rattle.promql_lines.specs.QueryErrors.{Gives, OfTree};
+ghost use Rattle.promql_lines.specs.QueryErrors.{Gives};
 ghost use Rattle.promql_report.specs.declared.findings.Finding as found;
-ghost use Rattle.promql_span.specs.Targets.{for_rules};
-ghost use Rattle.promql_c.specs.Calls.{IsTextOf};
 ghost use Rattle.promql_c.specs.FindingsText.{IsFindingsText, row_value};
 
-use promql_ast::drop_expr;
+use crate::tree_call::TreeCall;
+use promql_ast::Expr;
 use promql_lines::finite_json::value_text;
 use promql_lines::query_error::QueryError;
-use promql_lines::query_tree::query_tree;
 use promql_report::findings::{Finding, findings};
 use promql_span::limits::Limits;
 use serde_json::{Value, json};
@@ -54,30 +51,25 @@ fn text_of_findings(alloc: Global, limits: &Limits, query: &str) -> Result<Strin
     value_text(alloc, value)
 }
 
-/// The JSON of the findings of a text's query.
-fn difference_text(alloc: Global, limits: &Limits, query: &str) -> Result<String, QueryError>
-    ensures { OfTree (for_rules limits.now) query.now (λ t. Gives (IsFindingsText limits.now query.now) (λ e. ⊥)) (on_result (λ s. string_bytes s) result) }
-{
-    match query_tree(alloc, &limits.for_rules(), query) {
-        Ok(expr) => drop_expr(expr),
-        Err(error) => return Err(error),
-    }
-    match text_of_findings(alloc, limits, query) {
-        Ok(text) => Ok(text),
-        Err(_) => Err(QueryError::Memory),
-    }
+/// `calls::differences`. The query is read by these rules alone, and its findings are those of these limits.
+#[derive(Clone, Copy)]
+pub(crate) struct DifferencesCall<'a> {
+    pub(crate) limits: &'a Limits,
 }
 
-/// The JSON of the findings of a query.
-pub(crate) fn difference_query(
-    alloc: Global,
-    limits: &Limits,
-    query: &[u8],
-) -> Result<String, QueryError>
-    ensures { IsTextOf (λ t. IsFindingsText limits.now query.now) (for_rules limits.now) query.now (on_result (λ s. string_bytes s) result) }
-{
-    let Ok(query) = str::from_utf8(query) else {
-        return Err(QueryError::NotUtf8);
-    };
-    difference_text(alloc, limits, query)
+impl TreeCall for DifferencesCall<'_> {
+    ghost tells = { λ call limits query t. Gives (IsFindingsText call.limits.now query) (λ e. ⊥) };
+
+    fn tell(
+        &self,
+        alloc: Global,
+        _limits: &Limits,
+        query: &str,
+        _expr: &Expr,
+    ) -> Result<String, QueryError> {
+        match text_of_findings(alloc, self.limits, query) {
+            Ok(text) => Ok(text),
+            Err(_) => Err(QueryError::Memory),
+        }
+    }
 }

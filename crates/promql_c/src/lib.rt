@@ -41,6 +41,7 @@ mod reading;
 mod renaming;
 mod timing;
 mod tokens;
+mod tree_call;
 mod tree_printing;
 
 /// `calls::print`.

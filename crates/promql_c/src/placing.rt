@@ -4,19 +4,17 @@
 ghost use Rattle.std.specs.Prelude.{◌≡◌, IfOk, Ok, map, string_bytes};
 ghost use Rattle.serde_json.specs.View.{view};
 ghost use Rattle.serde_json.specs.Written.{compact_text};
-ghost use Rattle.promql_grammar.specs.Results.{on_result};
 ghost use Rattle.promql_ast.specs.View.{tree_of};
 ghost use Rattle.promql_json.specs.JsonParts.{list};
 ghost use Rattle.promql_syntax.specs.ParseAnswers.{IsAnswerTo};
-ghost use Rattle.promql_lines.specs.QueryErrors.{Gives, OfTree};
-ghost use Rattle.promql_c.specs.Calls.{IsTextOf};
+ghost use Rattle.promql_lines.specs.QueryErrors.{Gives};
 ghost use Rattle.promql_c.specs.PartsText.{IsPartsText, part_name, part_value, parts_value};
 ghost use Rattle.promql_c.specs.PlacesText.{IsPlacesText, span_value};
 
-use promql_ast::{Expr, drop_expr};
+use crate::tree_call::TreeCall;
+use promql_ast::Expr;
 use promql_lines::finite_json::value_text;
 use promql_lines::query_error::QueryError;
-use promql_lines::query_tree::query_tree;
 use promql_places::{Part, PartKind, find_parts, find_places};
 use promql_span::Span;
 use promql_span::limits::Limits;
@@ -55,34 +53,25 @@ fn text_of_places(alloc: Global, query: &str, expr: &Expr) -> Result<String, All
     places_text(alloc, places.as_slice())
 }
 
-/// The JSON of the places of a text's query.
-fn place_text(alloc: Global, limits: &Limits, query: &str) -> Result<String, QueryError>
-    ensures { OfTree limits.now query.now (λ t. Gives (IsPlacesText query.now t) (λ e. ⊥)) (on_result (λ s. string_bytes s) result) }
-{
-    let expr = match query_tree(alloc, limits, query) {
-        Ok(expr) => expr,
-        Err(error) => return Err(error),
-    };
-    let text = text_of_places(alloc, query, &expr);
-    drop_expr(expr);
-    match text {
-        Ok(text) => Ok(text),
-        Err(_) => Err(QueryError::Memory),
-    }
-}
+/// `calls::places`.
+#[derive(Clone, Copy)]
+pub(crate) struct PlacesCall;
 
-/// The JSON of the places of a query.
-pub(crate) fn place_query(
-    alloc: Global,
-    limits: &Limits,
-    query: &[u8],
-) -> Result<String, QueryError>
-    ensures { IsTextOf (IsPlacesText query.now) limits.now query.now (on_result (λ s. string_bytes s) result) }
-{
-    let Ok(query) = str::from_utf8(query) else {
-        return Err(QueryError::NotUtf8);
-    };
-    place_text(alloc, limits, query)
+impl TreeCall for PlacesCall {
+    ghost tells = { λ call limits query t. Gives (IsPlacesText query t) (λ e. ⊥) };
+
+    fn tell(
+        &self,
+        alloc: Global,
+        _limits: &Limits,
+        query: &str,
+        expr: &Expr,
+    ) -> Result<String, QueryError> {
+        match text_of_places(alloc, query, expr) {
+            Ok(text) => Ok(text),
+            Err(_) => Err(QueryError::Memory),
+        }
+    }
 }
 
 /// The name of a kind of part.
@@ -147,28 +136,23 @@ fn text_of_parts(alloc: Global, query: &str, expr: &Expr) -> Result<String, Allo
     part_lists_text(alloc, lists.as_slice())
 }
 
-/// The JSON of the parts of the nodes of a text's query.
-fn part_text(alloc: Global, limits: &Limits, query: &str) -> Result<String, QueryError>
-    ensures { OfTree limits.now query.now (λ t. Gives (IsPartsText query.now t) (λ e. ⊥)) (on_result (λ s. string_bytes s) result) }
-{
-    let expr = match query_tree(alloc, limits, query) {
-        Ok(expr) => expr,
-        Err(error) => return Err(error),
-    };
-    let text = text_of_parts(alloc, query, &expr);
-    drop_expr(expr);
-    match text {
-        Ok(text) => Ok(text),
-        Err(_) => Err(QueryError::Memory),
-    }
-}
+/// `calls::parts`.
+#[derive(Clone, Copy)]
+pub(crate) struct PartsCall;
 
-/// The JSON of the parts of the nodes of a query.
-pub(crate) fn part_query(alloc: Global, limits: &Limits, query: &[u8]) -> Result<String, QueryError>
-    ensures { IsTextOf (IsPartsText query.now) limits.now query.now (on_result (λ s. string_bytes s) result) }
-{
-    let Ok(query) = str::from_utf8(query) else {
-        return Err(QueryError::NotUtf8);
-    };
-    part_text(alloc, limits, query)
+impl TreeCall for PartsCall {
+    ghost tells = { λ call limits query t. Gives (IsPartsText query t) (λ e. ⊥) };
+
+    fn tell(
+        &self,
+        alloc: Global,
+        _limits: &Limits,
+        query: &str,
+        expr: &Expr,
+    ) -> Result<String, QueryError> {
+        match text_of_parts(alloc, query, expr) {
+            Ok(text) => Ok(text),
+            Err(_) => Err(QueryError::Memory),
+        }
+    }
 }

@@ -7,16 +7,16 @@ ghost use Rattle.promql_ast.specs.View.{tree_of};
 ghost use Rattle.promql_syntax.specs.ParseAnswers.{IsAnswerTo};
 ghost use Rattle.promql_syntax.specs.declared.parser.TheConstants.{MAX_DEPTH};
 ghost use Rattle.promql_run.specs.Extensions.{HasNoExtension};
-ghost use Rattle.promql_lines.specs.QueryErrors.{Gives, OfTree, Prints};
-ghost use Rattle.promql_c.specs.Calls.{IsPrintOf, IsSnippetOf, IsTextOf};
+ghost use Rattle.promql_lines.specs.QueryErrors.{Gives, Prints};
+ghost use Rattle.promql_c.specs.Calls.{IsPrintOf, IsSnippetOf};
 
-use promql_ast::{Expr, drop_expr};
+use crate::tree_call::{TreeCall, tell_query};
+use promql_ast::Expr;
 use promql_json::JsonError;
 use promql_lines::mode::Mode;
 use promql_lines::output::output_within;
 use promql_lines::placed_text::placed_text;
 use promql_lines::query_error::QueryError;
-use promql_lines::query_tree::query_tree;
 use promql_run::format::Format;
 use promql_run::rendering::shown_text;
 use promql_span::Span;
@@ -60,17 +60,24 @@ fn print_in(
     }
 }
 
-/// The text of a query in a mode.
-fn print_text(alloc: Global, limits: &Limits, mode: Mode, text: &str) -> Result<String, QueryError>
-    ensures { OfTree limits.now text.now (Prints limits.now text.now mode) (on_result (λ s. string_bytes s) result) }
-{
-    let expr = match query_tree(alloc, limits, text) {
-        Ok(expr) => expr,
-        Err(error) => return Err(error),
-    };
-    let shown = print_in(alloc, limits, mode, text, &expr);
-    drop_expr(expr);
-    shown
+/// `calls::print` in a mode that there is.
+#[derive(Clone, Copy)]
+struct PrintCall {
+    mode: Mode,
+}
+
+impl TreeCall for PrintCall {
+    ghost tells = { λ call limits query. Prints limits query call.mode };
+
+    fn tell(
+        &self,
+        alloc: Global,
+        limits: &Limits,
+        query: &str,
+        expr: &Expr,
+    ) -> Result<String, QueryError> {
+        print_in(alloc, limits, self.mode, query, expr)
+    }
 }
 
 /// The text of a query in the mode that was asked for.
@@ -82,37 +89,28 @@ pub(crate) fn print_query(
 ) -> Result<String, QueryError>
     ensures { IsPrintOf limits.now query.now asked (on_result (λ s. string_bytes s) result) }
 {
-    let Some(mode) = asked else {
-        return Err(QueryError::UnknownMode);
-    };
-    let Ok(text) = str::from_utf8(query) else {
-        return Err(QueryError::NotUtf8);
-    };
-    print_text(alloc, limits, mode, text)
-}
-
-/// Nothing where a query is accepted.
-fn check_text(alloc: Global, limits: &Limits, text: &str) -> Result<String, QueryError>
-    ensures { OfTree limits.now text.now (λ t. Gives (λ text. text ≡ []) (λ e. ⊥)) (on_result (λ s. string_bytes s) result) }
-{
-    match query_tree(alloc, limits, text) {
-        Ok(_) => Ok(String::new(alloc)),
-        Err(error) => Err(error),
+    match asked {
+        Some(mode) => tell_query(&PrintCall { mode }, alloc, limits, query),
+        None => Err(QueryError::UnknownMode),
     }
 }
 
-/// Nothing where a query is accepted.
-pub(crate) fn check_query(
-    alloc: Global,
-    limits: &Limits,
-    query: &[u8],
-) -> Result<String, QueryError>
-    ensures { IsTextOf (λ t text. text ≡ []) limits.now query.now (on_result (λ s. string_bytes s) result) }
-{
-    let Ok(text) = str::from_utf8(query) else {
-        return Err(QueryError::NotUtf8);
-    };
-    check_text(alloc, limits, text)
+/// `calls::check`: nothing, where the query is accepted.
+#[derive(Clone, Copy)]
+pub(crate) struct CheckCall;
+
+impl TreeCall for CheckCall {
+    ghost tells = { λ call limits query t. Gives (λ text. text ≡ []) (λ e. ⊥) };
+
+    fn tell(
+        &self,
+        alloc: Global,
+        _limits: &Limits,
+        _query: &str,
+        _expr: &Expr,
+    ) -> Result<String, QueryError> {
+        Ok(String::new(alloc))
+    }
 }
 
 /// The line of a query where a part of it begins, with a mark below it.

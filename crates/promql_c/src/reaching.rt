@@ -6,16 +6,15 @@ ghost use Rattle.serde_json.specs.View.{view};
 ghost use Rattle.serde_json.specs.Written.{compact_text};
 ghost use Rattle.promql_grammar.specs.Results.{on_result};
 ghost use Rattle.promql_ast.specs.View.{selector_of, tree_of};
-ghost use Rattle.promql_lines.specs.QueryErrors.{OfTree};
 ghost use Rattle.promql_when.specs.ReachFound.{reaches_of};
 ghost use Rattle.promql_when.specs.Reads.{target_info};
-ghost use Rattle.promql_c.specs.Calls.{GivesReaches, IsReachesOf};
+ghost use Rattle.promql_c.specs.Calls.{GivesReaches};
 ghost use Rattle.promql_c.specs.ReachesText as spec;
 
-use promql_ast::{Expr, drop_expr};
+use crate::tree_call::TreeCall;
+use promql_ast::Expr;
 use promql_lines::finite_json::value_text;
 use promql_lines::query_error::QueryError;
-use promql_lines::query_tree::query_tree;
 use promql_lines::windows_text::{error_of, selector_text};
 use promql_span::limits::Limits;
 use promql_when::{SelectorReach, Times, reaches};
@@ -66,35 +65,22 @@ fn text_of_reaches(alloc: Global, times: &Times, expr: &Expr) -> Result<String, 
     }
 }
 
-/// The JSON of how far a text's query reads.
-fn reach_text(
-    alloc: Global,
-    limits: &Limits,
-    times: &Times,
-    query: &str,
-) -> Result<String, QueryError>
-    ensures { OfTree limits.now query.now (GivesReaches times.now) (on_result (λ s. string_bytes s) result) }
-{
-    let expr = match query_tree(alloc, limits, query) {
-        Ok(expr) => expr,
-        Err(error) => return Err(error),
-    };
-    let text = text_of_reaches(alloc, times, &expr);
-    drop_expr(expr);
-    text
+/// `calls::reaches`.
+#[derive(Clone, Copy)]
+pub(crate) struct ReachesCall<'a> {
+    pub(crate) times: &'a Times,
 }
 
-/// The JSON of how far a query reads.
-pub(crate) fn reach_query(
-    alloc: Global,
-    limits: &Limits,
-    times: &Times,
-    query: &[u8],
-) -> Result<String, QueryError>
-    ensures { IsReachesOf limits.now times.now query.now (on_result (λ s. string_bytes s) result) }
-{
-    let Ok(query) = str::from_utf8(query) else {
-        return Err(QueryError::NotUtf8);
-    };
-    reach_text(alloc, limits, times, query)
+impl TreeCall for ReachesCall<'_> {
+    ghost tells = { λ call limits query. GivesReaches call.times.now };
+
+    fn tell(
+        &self,
+        alloc: Global,
+        _limits: &Limits,
+        _query: &str,
+        expr: &Expr,
+    ) -> Result<String, QueryError> {
+        text_of_reaches(alloc, self.times, expr)
+    }
 }

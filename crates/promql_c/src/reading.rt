@@ -7,17 +7,16 @@ ghost use Rattle.serde_json.specs.View.{members_view, view};
 ghost use Rattle.serde_json.specs.Written.{compact_text};
 ghost use Rattle.promql_grammar.specs.Results.{on_result};
 ghost use Rattle.promql_ast.specs.View.{tree_of};
-ghost use Rattle.promql_lines.specs.QueryErrors.{OfTree};
 ghost use Rattle.promql_when.specs.MayRead.{may_read, series_of};
 ghost use Rattle.promql_c.specs.Calls.{GivesMayRead, IsMayReadOf};
 ghost use Rattle.promql_c.specs.SeriesText as spec;
 ghost use Rattle.promql_c.specs.SeriesText.{AreNoLabels};
 
-use promql_ast::{Expr, drop_expr};
+use crate::tree_call::{TreeCall, tell_query};
+use promql_ast::Expr;
 use promql_lines::finite_json::value_text;
 use promql_lines::labels_fault::LabelsFault;
 use promql_lines::query_error::QueryError;
-use promql_lines::query_tree::query_tree;
 use promql_span::limits::Limits;
 use promql_when::{SeriesLabel, may_read};
 use serde_json::{Category, Map, Value};
@@ -107,22 +106,24 @@ fn text_of_may_read(alloc: Global, labels: &str, expr: &Expr) -> Result<String, 
     }
 }
 
-/// The same of a text's query.
-fn may_read_text(
-    alloc: Global,
-    limits: &Limits,
-    query: &str,
-    labels: &str,
-) -> Result<String, QueryError>
-    ensures { OfTree limits.now query.now (GivesMayRead labels.now) (on_result (λ s. string_bytes s) result) }
-{
-    let expr = match query_tree(alloc, limits, query) {
-        Ok(expr) => expr,
-        Err(error) => return Err(error),
-    };
-    let text = text_of_may_read(alloc, labels, &expr);
-    drop_expr(expr);
-    text
+/// `calls::may_read`.
+#[derive(Clone, Copy)]
+pub(crate) struct MayReadCall<'a> {
+    pub(crate) labels: &'a str,
+}
+
+impl TreeCall for MayReadCall<'_> {
+    ghost tells = { λ call limits query. GivesMayRead call.labels.now };
+
+    fn tell(
+        &self,
+        alloc: Global,
+        _limits: &Limits,
+        _query: &str,
+        expr: &Expr,
+    ) -> Result<String, QueryError> {
+        text_of_may_read(alloc, self.labels, expr)
+    }
 }
 
 /// Whether a query may read the series with these labels, as JSON.
@@ -134,8 +135,8 @@ pub(crate) fn may_read_query(
 ) -> Result<String, QueryError>
     ensures { IsMayReadOf limits.now query.now labels.now (on_result (λ s. string_bytes s) result) }
 {
-    let (Ok(query), Ok(labels)) = (str::from_utf8(query), str::from_utf8(labels)) else {
-        return Err(QueryError::NotUtf8);
-    };
-    may_read_text(alloc, limits, query, labels)
+    match str::from_utf8(labels) {
+        Ok(labels) => tell_query(&MayReadCall { labels }, alloc, limits, query),
+        Err(_) => Err(QueryError::NotUtf8),
+    }
 }

@@ -3,52 +3,39 @@
 ghost use Rattle.std.specs.Prelude.{string_bytes};
 ghost use Rattle.promql_grammar.specs.Results.{on_result};
 ghost use Rattle.promql_ast.specs.View.{tree_of};
-ghost use Rattle.promql_lines.specs.QueryErrors.{Gives, OfTree};
+ghost use Rattle.promql_lines.specs.QueryErrors.{Gives};
 ghost use Rattle.promql_lines.specs.WindowsText.{GivesWindows, IsConstantText};
-ghost use Rattle.promql_c.specs.Calls.{GivesLastRead, IsLastReadOf, IsPinnedOf, IsTextOf, IsWindowsOf, Pins};
+ghost use Rattle.promql_c.specs.Calls.{GivesLastRead, Pins};
 
+use crate::tree_call::TreeCall;
 use promql_ast::{Expr, drop_expr};
 use promql_lines::finite_json::value_text;
 use promql_lines::output::output_within;
 use promql_lines::query_error::QueryError;
-use promql_lines::query_tree::query_tree;
 use promql_lines::windows_text::{error_of, last_text, windows_text};
 use promql_span::limits::Limits;
 use promql_when::{PinError, Times, is_constant, last_read, pinned};
 use serde_json::Value;
 use std::alloc::Global;
 
-/// The JSON of the windows of a text's query.
-fn window_text(
-    alloc: Global,
-    limits: &Limits,
-    times: &Times,
-    query: &str,
-) -> Result<String, QueryError>
-    ensures { OfTree limits.now query.now (GivesWindows query.now times.now) (on_result (λ s. string_bytes s) result) }
-{
-    let expr = match query_tree(alloc, limits, query) {
-        Ok(expr) => expr,
-        Err(error) => return Err(error),
-    };
-    let text = windows_text(alloc, query, times, &expr);
-    drop_expr(expr);
-    text
+/// `calls::windows`.
+#[derive(Clone, Copy)]
+pub(crate) struct WindowsCall<'a> {
+    pub(crate) times: &'a Times,
 }
 
-/// The JSON of the windows of a query.
-pub(crate) fn window_query(
-    alloc: Global,
-    limits: &Limits,
-    times: &Times,
-    query: &[u8],
-) -> Result<String, QueryError>
-    ensures { IsWindowsOf limits.now times.now query.now (on_result (λ s. string_bytes s) result) }
-{
-    let Ok(query) = str::from_utf8(query) else {
-        return Err(QueryError::NotUtf8);
-    };
-    window_text(alloc, limits, times, query)
+impl TreeCall for WindowsCall<'_> {
+    ghost tells = { λ call limits query. GivesWindows query call.times.now };
+
+    fn tell(
+        &self,
+        alloc: Global,
+        _limits: &Limits,
+        query: &str,
+        expr: &Expr,
+    ) -> Result<String, QueryError> {
+        windows_text(alloc, query, self.times, expr)
+    }
 }
 
 /// The JSON of the last millisecond that an expression reads at a time.
@@ -69,39 +56,26 @@ fn text_of_last_read(
     }
 }
 
-/// The same of a text's query.
-fn last_read_text(
-    alloc: Global,
-    limits: &Limits,
-    times: &Times,
-    time: i64,
-    query: &str,
-) -> Result<String, QueryError>
-    ensures { OfTree limits.now query.now (GivesLastRead times.now time) (on_result (λ s. string_bytes s) result) }
-{
-    let expr = match query_tree(alloc, limits, query) {
-        Ok(expr) => expr,
-        Err(error) => return Err(error),
-    };
-    let text = text_of_last_read(alloc, times, time, &expr);
-    drop_expr(expr);
-    text
+/// `calls::last_read`.
+#[derive(Clone, Copy)]
+pub(crate) struct LastReadCall<'a> {
+    pub(crate) times: &'a Times,
+    /// When the query is evaluated, in milliseconds since the epoch.
+    pub(crate) time: i64,
 }
 
-/// The JSON of the last millisecond that a query reads at a time.
-pub(crate) fn last_read_query(
-    alloc: Global,
-    limits: &Limits,
-    times: &Times,
-    time: i64,
-    query: &[u8],
-) -> Result<String, QueryError>
-    ensures { IsLastReadOf limits.now times.now time query.now (on_result (λ s. string_bytes s) result) }
-{
-    let Ok(query) = str::from_utf8(query) else {
-        return Err(QueryError::NotUtf8);
-    };
-    last_read_text(alloc, limits, times, time, query)
+impl TreeCall for LastReadCall<'_> {
+    ghost tells = { λ call limits query. GivesLastRead call.times.now call.time };
+
+    fn tell(
+        &self,
+        alloc: Global,
+        _limits: &Limits,
+        _query: &str,
+        expr: &Expr,
+    ) -> Result<String, QueryError> {
+        text_of_last_read(alloc, self.times, self.time, expr)
+    }
 }
 
 /// The line of a pinned expression.
@@ -127,67 +101,46 @@ fn line_of_pinned(
     }
 }
 
-/// The line of a text's query, pinned.
-fn pin_text(
-    alloc: Global,
-    limits: &Limits,
-    start: i64,
-    end: i64,
-    query: &str,
-) -> Result<String, QueryError>
-    ensures { OfTree limits.now query.now (Pins limits.now start end) (on_result (λ s. string_bytes s) result) }
-{
-    let expr = match query_tree(alloc, limits, query) {
-        Ok(expr) => expr,
-        Err(error) => return Err(error),
-    };
-    let line = line_of_pinned(alloc, limits, start, end, &expr);
-    drop_expr(expr);
-    line
+/// `calls::pinned`.
+#[derive(Clone, Copy)]
+pub(crate) struct PinnedCall {
+    /// The time for `@ start()`, in milliseconds since the epoch.
+    pub(crate) start: i64,
+    /// The time for `@ end()`.
+    pub(crate) end: i64,
 }
 
-/// The line of a query with these times for `@ start()` and `@ end()`.
-pub(crate) fn pin_query(
-    alloc: Global,
-    limits: &Limits,
-    start: i64,
-    end: i64,
-    query: &[u8],
-) -> Result<String, QueryError>
-    ensures { IsPinnedOf limits.now start end query.now (on_result (λ s. string_bytes s) result) }
-{
-    let Ok(query) = str::from_utf8(query) else {
-        return Err(QueryError::NotUtf8);
-    };
-    pin_text(alloc, limits, start, end, query)
-}
+impl TreeCall for PinnedCall {
+    ghost tells = { λ call limits query. Pins limits call.start call.end };
 
-/// Whether a text's query is the same at every time, as JSON.
-fn constant_text(alloc: Global, limits: &Limits, query: &str) -> Result<String, QueryError>
-    ensures { OfTree limits.now query.now (λ t. Gives (IsConstantText t) (λ e. ⊥)) (on_result (λ s. string_bytes s) result) }
-{
-    let expr = match query_tree(alloc, limits, query) {
-        Ok(expr) => expr,
-        Err(error) => return Err(error),
-    };
-    let text = value_text(alloc, Value::Bool(is_constant(&expr)));
-    drop_expr(expr);
-    match text {
-        Ok(text) => Ok(text),
-        Err(_) => Err(QueryError::Memory),
+    fn tell(
+        &self,
+        alloc: Global,
+        limits: &Limits,
+        _query: &str,
+        expr: &Expr,
+    ) -> Result<String, QueryError> {
+        line_of_pinned(alloc, limits, self.start, self.end, expr)
     }
 }
 
-/// Whether a query is the same at every time, as JSON.
-pub(crate) fn constant_query(
-    alloc: Global,
-    limits: &Limits,
-    query: &[u8],
-) -> Result<String, QueryError>
-    ensures { IsTextOf IsConstantText limits.now query.now (on_result (λ s. string_bytes s) result) }
-{
-    let Ok(query) = str::from_utf8(query) else {
-        return Err(QueryError::NotUtf8);
-    };
-    constant_text(alloc, limits, query)
+/// `calls::is_constant`.
+#[derive(Clone, Copy)]
+pub(crate) struct ConstantCall;
+
+impl TreeCall for ConstantCall {
+    ghost tells = { λ call limits query t. Gives (IsConstantText t) (λ e. ⊥) };
+
+    fn tell(
+        &self,
+        alloc: Global,
+        _limits: &Limits,
+        _query: &str,
+        expr: &Expr,
+    ) -> Result<String, QueryError> {
+        match value_text(alloc, Value::Bool(is_constant(expr))) {
+            Ok(text) => Ok(text),
+            Err(_) => Err(QueryError::Memory),
+        }
+    }
 }

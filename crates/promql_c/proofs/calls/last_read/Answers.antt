@@ -6,8 +6,8 @@ use Rattle.promql_c.proofs.calls.last_read.Goals as goal
 
 pub returns : goal.returns
 returns c =
-    let made = on_result (λ s. string_bytes s) c.last_read_query-made.result in (
+    let made = on_result (λ s. string_bytes s) c.tell_query-made.result in (
       made,
-      at_time (λ x. IsLastReadOf c.args.limits.now c.args.times.now x c.args.query.now made) c.args.time c.ranges.time c.last_read_query-made.ensures,
+      at_time (λ x. IsLastReadOf c.args.limits.now c.args.times.now x c.args.query.now made) c.args.time c.ranges.time c.tell_query-made.ensures,
       c.show.ensures,
     )

@@ -6,8 +6,8 @@ use Rattle.promql_c.proofs.calls.pinned.Goals as goal
 
 pub returns : goal.returns
 returns c =
-    let made = on_result (λ s. string_bytes s) c.pin_query-made.result in (
+    let made = on_result (λ s. string_bytes s) c.tell_query-made.result in (
       made,
-      at_times (λ x y. IsPinnedOf c.args.limits.now x y c.args.query.now made) c.args.start c.args.end c.ranges.start c.ranges.end c.pin_query-made.ensures,
+      at_times (λ x y. IsPinnedOf c.args.limits.now x y c.args.query.now made) c.args.start c.args.end c.ranges.start c.ranges.end c.tell_query-made.ensures,
       c.show.ensures,
     )
