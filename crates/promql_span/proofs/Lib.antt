@@ -15,7 +15,12 @@ pub mod ErrorPlacing
 pub mod Columns
 pub mod VisibleTexts
 mod TokenRanges
+mod LaterTokens
+mod OperatorTokens
+mod TextMarks
 mod TokensWithout
+mod WithoutEscapes
 mod WithoutMarks
 mod WithoutTilde
 mod WordIds
+mod ZeroNumbers

@@ -1,243 +1,290 @@
 -- A text without a mark has nothing that a server reads otherwise.
-use Rattle.std.proofs.Common.{◌≡◌, ℕ, zero, suc, ◌+◌, refl, sym, ◌∙◌, ap, Bool, true, false, true≢false, cond, ◌&&◌, ◌||◌, List, [], ◌∷◌, ◌++◌, inl, inr}
-use Rattle.std.specs.Prelude.{◌==◌, Option, Some, None, option_and_then, bytes_eq, codes, is_some, not, option_map, option_to_list, slice_get, slice_index, take}
-use Rattle.std.specs.List.{list_all, list_any}
-use Rattle.std.proofs.lemmas.Bool.{and_parts, cond_both, eqb-true}
+use Rattle.std.proofs.Common.{◌≡◌, ℕ, suc, ◌+◌, ◌-◌, ◌<◌, refl, sym, ◌∙◌, ap, subst, Bool, true, false, true≢false, arith, cond, ◌&&◌, ◌||◌, [], ◌∷◌, ◌++◌, length, take}
+use Rattle.std.specs.Prelude.{◌==◌, Option, Some, None, option_and_then, bytes_eq, codes, is_some, nat_le, nat_lt, not, option_map, option_to_list, slice_get, slice_index}
+use Rattle.std.specs.List.{list_any, prefix_len}
+use Rattle.std.specs.Str.{IsAscii}
+use Rattle.std.proofs.lemmas.Bool.{and_parts, cond_both}
+use Rattle.std.proofs.lemmas.Bool.Decides.{nat_tests}
 use Rattle.std.proofs.lemmas.Slice.Eq.{bytes_eq-Decides}
+use Rattle.std.proofs.lemmas.Str.Ascii.{IsAscii-nil, IsAscii-cons}
 use Rattle.std.proofs.Math.Bool.{or-true}
+use Rattle.std.proofs.Math.Seq.{take-length}
+use Rattle.promql_text.specs.NumberText.{read_number}
 use Rattle.promql_text.specs.Texts.{Text, code}
-use Rattle.promql_token.specs.Begins.{IsOneOf, MayBegin, punctuators}
 use Rattle.promql_token.specs.Cursor.{tokens_up_to_fault}
-use Rattle.promql_token.specs.declared.ids.TheConstants.{T_ADD, T_AT, T_IDENTIFIER, T_LEFT_PAREN, T_STRING, T_SUB}
-use Rattle.promql_token.specs.declared.state.Bracket.TheVariants as bracket
-use Rattle.promql_token.specs.declared.state.Mode.{Mode}
-use Rattle.promql_token.specs.declared.state.Mode.TheVariants as mode
+use Rattle.promql_token.specs.declared.ids.TheConstants.{T_ADD, T_AT, T_EOF, T_EQL, T_IDENTIFIER, T_LEFT_PAREN, T_NUMBER, T_STRING, T_SUB}
 use Rattle.promql_span.specs.ByteEscapes.{first_escape, is_byte_escape}
-use Rattle.promql_span.specs.Differences.{Tokens, after_brace, clashes, comes_first, counted, difference, difference_at, has_replacement, in_parens, kind_at, kinds, matched_labels, spells_replacement, stands_for, string_kind}
-use Rattle.promql_span.specs.QueryMarks.{has_mark, is_mark}
+use Rattle.promql_span.specs.Differences.{Tokens, after_brace, after_signs, begins_with_fine, begins_with_zero, clashes, comes_first, counted, difference, difference_at, has_replacement, in_parens, is_before_operand, is_fine, kind_at, kinds, len_to_point, matched_labels, reads_zero, spells_replacement, stands_for, string_kind}
+use Rattle.promql_span.specs.QueryMarks.{has, has_mark, has_text, may_have_fine, may_have_zero, may_look_at_plus}
 use Rattle.promql_span.specs.declared.differences.DifferenceKind.{DifferenceKind}
 use Rattle.promql_span.specs.declared.differences.DifferenceKind.TheVariants as kind
 use Rattle.promql_span.specs.declared.limits.Limits.{Limits}
+use Rattle.promql_span.proofs.LaterTokens.{has_token, is_fine_number, is_zero_number, no_fine_after_signs, no_repeated_label, no_zero_after_signs, none_first, none_in_parens}
+use Rattle.promql_span.proofs.OperatorTokens.{OfPunctuators, in_front, needs_byte, or_left, or_right}
 use Rattle.promql_span.proofs.TokensWithout.{NeedsText, none_such}
-use Rattle.promql_span.proofs.WithoutTilde.{has_tilde}
-use Rattle.promql_span.proofs.WordIds.{OfNoWord, name_in_braces_is_none, word_is_none}
+use Rattle.promql_span.proofs.ZeroNumbers.{no_zero_without_naught}
 
-or_left : (a b : Bool) → a || b ≡ false → a ≡ false
-or_left true b miss = absurd (true≢false miss)
-or_left false b miss = refl
+-- ---- which texts of tokens have something
 
-or_right : (a b : Bool) → a || b ≡ false → b ≡ false
-or_right true b miss = absurd (true≢false miss)
-or_right false b miss = miss
+-- where a text that lacks it is none of these
+by_lack : (f has : Bool) → (has ≡ false → f ≡ false) → f ≡ true → has ≡ true
+by_lack f true lacks is = refl
+by_lack f false lacks is = absurd (true≢false (sym is ∙ lacks refl))
 
--- ---- which tokens may be read otherwise
+-- a token of an id, whose text is one of these
+abbrev is_such : ℕ → (Text → Bool) → ℕ × Text → Bool
+is_such id f t = t.0 == id && f t.1
 
-abbrev is_sign : ℕ → Bool
-is_sign id = id == T_SUB || id == T_AT
+abbrev IsKept : (Text → Bool) → Type 0
+IsKept has = (b : ℕ) (z : Text) → has (b ∷ z) ≡ false → has z ≡ false
 
--- the names of calls that look at a plus, and of those that look at the order of matchers
+spelled : (id : ℕ) (f has : Text → Bool) → (T_EOF == id) ≡ false → IsKept has → ((w r : Text) → f w ≡ true → has (w ++ r) ≡ true) → NeedsText (is_such id f) has
+spelled id f has other more front = record {
+  more = more;
+  ends = λ w. ap (λ a. a && f w) other;
+  begins = λ m depth own w r begun is. front w r (and_parts (own == id) (f w) is).1;
+}
+
+either_front : (p q : ℕ → Bool) (w r : Text) → list_any p w || list_any q w ≡ true → list_any p (w ++ r) || list_any q (w ++ r) ≡ true
+either_front p q w r is = go (list_any p w) refl is
+  where
+    go : (a : Bool) → list_any p w ≡ a → a || list_any q w ≡ true → list_any p (w ++ r) || list_any q (w ++ r) ≡ true
+    go true one is = ap (λ a. a || list_any q (w ++ r)) (in_front p w r one)
+    go false one is = ap (λ a. list_any p (w ++ r) || a) (in_front q w r is) ∙ or-true (list_any p (w ++ r))
+
+either_kept : (one other : Text → Bool) → IsKept one → IsKept other → IsKept (λ s. one s || other s)
+either_kept one other more also b z miss =
+    ap (λ a. a || other z) (more b z (or_left (one (b ∷ z)) (other (b ∷ z)) miss)) ∙ also b z (or_right (one (b ∷ z)) (other (b ∷ z)) miss)
+
+any_kept : (p : ℕ → Bool) → IsKept (list_any p)
+any_kept p b z miss = or_right (p b) (list_any p z) miss
+
+text_kept : (w : Text) → IsKept (has_text w)
+text_kept w b z miss = or_right _ (has_text w z) miss
+
+-- ---- a string with an escape has a backslash
+
+pub no_escape : (at : ℕ) (w : Text) → has (code "\\") w ≡ false → first_escape false at w ≡ None
+no_escape at [] miss = refl
+no_escape at (b ∷ w) miss = go (b == code "\\") miss (no_escape (at + 1) w)
+  where
+    go : (a : Bool) → a || has (code "\\") w ≡ false → (has (code "\\") w ≡ false → first_escape false (at + 1) w ≡ None)
+        → cond (a && is_byte_escape w) (Some at) (first_escape a (at + 1) w) ≡ None
+    go true miss rest = absurd (true≢false miss)
+    go false miss rest = rest miss
+
+no_replacement : (w : Text) → has (code "\\") w ≡ false → has_replacement w ≡ false
+no_replacement [] miss = refl
+no_replacement (b ∷ w) miss = go (b == code "\\") miss (no_replacement w)
+  where
+    go : (a : Bool) → a || has (code "\\") w ≡ false → (has (code "\\") w ≡ false → has_replacement w ≡ false)
+        → (a && spells_replacement w) || has_replacement w ≡ false
+    go true miss rest = absurd (true≢false miss)
+    go false miss rest = rest miss
+
+no_kind : (w : Text) → has (code "\\") w ≡ false → string_kind w ≡ None
+no_kind w miss =
+    cond_both (slice_index w 0 == code "`") _ _ (λ o. o ≡ None) (λ _. refl)
+    (λ _. (λ i. cond (is_some (no_escape 0 w miss i)) (Some kind.ByteEscape) (cond (no_replacement w miss i) (Some kind.ReplacementEscape) None)))
+
+abbrev has_kind : Text → Bool
+has_kind w = is_some (string_kind w)
+
+needs_backslash : NeedsText (is_such T_STRING has_kind) (has (code "\\"))
+needs_backslash = spelled T_STRING has_kind (has (code "\\")) refl (any_kept (λ b. b == code "\\"))
+    (λ w r is. in_front (λ b. b == code "\\") w r (by_lack (has_kind w) (has (code "\\") w) (λ miss. ap is_some (no_kind w miss)) is))
+
+-- ---- a number that is zero has a zero, and one with parts of a thousandth a point or a minus
+
+pub ascii_text : (w : Text) → list_any (nat_le 128) w ≡ false → IsAscii w
+ascii_text [] miss = IsAscii-nil
+ascii_text (b ∷ w) miss = IsAscii-cons b w (below b (or_left (nat_le 128 b) _ miss)) (ascii_text w (or_right (nat_le 128 b) _ miss))
+  where
+    below : (b : ℕ) → nat_le 128 b ≡ false → b < 128
+    below b miss = grind (arith, nat_tests)
+
+abbrev is_zero_text : Text → Bool
+is_zero_text w = reads_zero (read_number w)
+
+needs_zero : NeedsText (is_such T_NUMBER is_zero_text) may_have_zero
+needs_zero = spelled T_NUMBER is_zero_text may_have_zero refl (either_kept (has (code "0")) (list_any (nat_le 128)) (any_kept (λ b. b == code "0")) (any_kept (nat_le 128)))
+    (λ w r is. either_front (λ b. b == code "0") (nat_le 128) w r (by_lack (is_zero_text w) (may_have_zero w)
+    (λ miss. no_zero_without_naught w (ascii_text w (or_right (has (code "0") w) _ miss)) (or_left (has (code "0") w) (list_any (nat_le 128) w) miss)) is))
+
+all_before : (w : Text) → has (code ".") w ≡ false → prefix_len (λ b. not (b == code ".")) w ≡ length w
+all_before [] miss = refl
+all_before (b ∷ w) miss =
+    ap (λ a. cond (not a) (1 + prefix_len (λ b. not (b == code ".")) w) 0) (or_left (b == code ".") (has (code ".") w) miss)
+    ∙ ap (λ n. 1 + n) (all_before w (or_right (b == code ".") (has (code ".") w) miss)) ∙ one_more (length w)
+  where
+    one_more : (n : ℕ) → 1 + n ≡ suc n
+    one_more n = grind arith
+
+all_to_point : (w : Text) → has (code ".") w ≡ false → len_to_point w ≡ length w
+all_to_point w miss = ap (λ n. length (take n w)) (all_before w miss) ∙ ap length (take-length w)
+
+none_after : (n : ℕ) → nat_lt 4 (n - n) ≡ false
+none_after n = grind (arith, nat_tests)
+
+not_fine : (w : Text) → may_have_fine w ≡ false → is_fine w ≡ false
+not_fine w miss =
+    ap (λ n. nat_lt 4 (length w - n) || has (code "-") w) (all_to_point w (or_left (has (code ".") w) (has (code "-") w) miss))
+    ∙ ap (λ a. a || has (code "-") w) (none_after (length w)) ∙ or_right (has (code ".") w) (has (code "-") w) miss
+
+needs_point : NeedsText (is_such T_NUMBER is_fine) may_have_fine
+needs_point = spelled T_NUMBER is_fine may_have_fine refl (either_kept (has (code ".")) (has (code "-")) (any_kept (λ b. b == code ".")) (any_kept (λ b. b == code "-")))
+    (λ w r is. either_front (λ b. b == code ".") (λ b. b == code "-") w r (by_lack (is_fine w) (may_have_fine w) (not_fine w) is))
+
+-- ---- names of calls
+
+-- of those that look at a plus, and of those that look at the order of matchers
 abbrev looks_at_plus : Text → Bool
 looks_at_plus w = list_any (bytes_eq w) (codes "timestamp" ∷ codes "absent" ∷ [])
 
 abbrev looks_at_order : Text → Bool
 looks_at_order w = list_any (bytes_eq w) (codes "absent" ∷ codes "absent_over_time" ∷ [])
 
-abbrev looks : Text → Bool
-looks w = looks_at_plus w || looks_at_order w
-
-abbrev is_notable : ℕ × Text → Bool
-is_notable t = (t.0 == T_STRING && is_some (string_kind t.1)) || (is_sign t.0 || (t.0 == T_IDENTIFIER && looks t.1))
-
--- ---- a string without a backslash has none
-
-abbrev has_backslash : Text → Bool
-has_backslash = list_any (λ b. b == code "\\")
-
-no_escape : (at : ℕ) (w : Text) → has_backslash w ≡ false → first_escape false at w ≡ None
-no_escape at [] miss = refl
-no_escape at (b ∷ w) miss = go (b == code "\\") miss (no_escape (at + 1) w)
+-- what is so of each of two names, is so of a text that is one of them
+one_of_two : (a b : Text) (P : Text → Type 0) → P a → P b → (w : Text) → list_any (bytes_eq w) (a ∷ b ∷ []) ≡ true → P w
+one_of_two a b P first second w is = go (bytes_eq w a) refl (bytes_eq w b) refl is
   where
-    go : (a : Bool) → a || has_backslash w ≡ false → (has_backslash w ≡ false → first_escape false (at + 1) w ≡ None)
-        → cond (a && is_byte_escape w) (Some at) (first_escape a (at + 1) w) ≡ None
-    go true miss rest = absurd (true≢false miss)
-    go false miss rest = rest miss
+    named : (name : Text) → bytes_eq w name ≡ true → P name → P w
+    named name same p = subst P (sym ((bytes_eq-Decides w name).0 same)) p
 
-no_replacement : (w : Text) → has_backslash w ≡ false → has_replacement w ≡ false
-no_replacement [] miss = refl
-no_replacement (b ∷ w) miss = go (b == code "\\") miss (no_replacement w)
-  where
-    go : (a : Bool) → a || has_backslash w ≡ false → (has_backslash w ≡ false → has_replacement w ≡ false)
-        → (a && spells_replacement w) || has_replacement w ≡ false
-    go true miss rest = absurd (true≢false miss)
-    go false miss rest = rest miss
+    go : (x : Bool) → bytes_eq w a ≡ x → (y : Bool) → bytes_eq w b ≡ y → x || (y || false) ≡ true → P w
+    go true one y _ is = named a one first
+    go false one true two is = named b two second
+    go false one false two is = absurd (true≢false (sym is))
 
-no_kind : (w : Text) → has_backslash w ≡ false → string_kind w ≡ None
-no_kind w miss =
-    cond_both (slice_index w 0 == code "`") _ _ (λ o. o ≡ None) (λ _. refl)
-    (λ _. (λ i. cond (is_some (no_escape 0 w miss i)) (Some kind.ByteEscape) (cond (no_replacement w miss i) (Some kind.ReplacementEscape) None)))
+needs_order_name : NeedsText (is_such T_IDENTIFIER looks_at_order) (has_text (codes "bsent"))
+needs_order_name = spelled T_IDENTIFIER looks_at_order (has_text (codes "bsent")) refl (text_kept (codes "bsent"))
+    (λ w r. one_of_two (codes "absent") (codes "absent_over_time") (λ w. has_text (codes "bsent") (w ++ r) ≡ true) refl refl w)
 
--- ---- such a token has a mark
+needs_plus_name : NeedsText (is_such T_IDENTIFIER looks_at_plus) may_look_at_plus
+needs_plus_name = spelled T_IDENTIFIER looks_at_plus may_look_at_plus refl
+    (either_kept (has_text (codes "bsent")) (has_text (codes "mestamp")) (text_kept (codes "bsent")) (text_kept (codes "mestamp")))
+    (λ w r. one_of_two (codes "timestamp") (codes "absent") (λ w. may_look_at_plus (w ++ r) ≡ true) (or-true (has_text (codes "bsent") (codes "timestamp" ++ r))) refl w)
 
--- what comes after it is of no account
-backslash_in_front : (w r : Text) → has_backslash w ≡ true → has_mark (w ++ r) ≡ true
-backslash_in_front [] r has = absurd (true≢false (sym has))
-backslash_in_front (b ∷ w) r has = go (b == code "\\") refl (backslash_in_front w r)
-  where
-    go : (a : Bool) → (b == code "\\") ≡ a → (has_backslash w ≡ true → has_mark (w ++ r) ≡ true) → has_mark (b ∷ (w ++ r)) ≡ true
-    go true is rest = ap (λ c. has_mark (c ∷ (w ++ r))) (eqb-true b (code "\\") is)
-    go false is rest = ap (λ a. is_mark b (w ++ r) || a) (rest (ap (λ a. a || has_backslash w) (sym is) ∙ has)) ∙ or-true (is_mark b (w ++ r))
+-- ---- operators
 
-string_has_mark : (w r : Text) → is_some (string_kind w) ≡ true → has_mark (w ++ r) ≡ true
-string_has_mark w r is = go (has_backslash w) refl
-  where
-    go : (a : Bool) → has_backslash w ≡ a → has_mark (w ++ r) ≡ true
-    go true has = backslash_in_front w r has
-    go false miss = absurd (true≢false (sym is ∙ ap is_some (no_kind w miss)))
+needs_operator : (id c : ℕ) → OfPunctuators (λ k. k == id) c → NeedsText (λ t. t.0 == id) (has c)
+needs_operator id c these = needs_byte (λ k. k == id) c these
 
-name_has_mark : (w r : Text) → looks w ≡ true → has_mark (w ++ r) ≡ true
-name_has_mark w r is =
-    go (bytes_eq w (codes "timestamp")) refl (bytes_eq w (codes "absent")) refl (bytes_eq w (codes "absent_over_time")) refl
-  where
-    spelled : (name : Text) → bytes_eq w name ≡ true → has_mark (name ++ r) ≡ true → has_mark (w ++ r) ≡ true
-    spelled name same has = ap (λ w. has_mark (w ++ r)) ((bytes_eq-Decides w name).0 same) ∙ has
+with_minus : OfPunctuators (λ k. k == T_SUB) (code "-")
+with_minus = record { outside = refl; braces = refl; brackets = refl; word = record { keyword = refl; name = refl; metric = refl; alternative = refl }; other = refl }
 
-    go : (a : Bool) → bytes_eq w (codes "timestamp") ≡ a → (b : Bool) → bytes_eq w (codes "absent") ≡ b
-        → (c : Bool) → bytes_eq w (codes "absent_over_time") ≡ c → has_mark (w ++ r) ≡ true
-    go true one b _ c _ = spelled (codes "timestamp") one refl
-    go false one true two c _ = spelled (codes "absent") two refl
-    go false one false two true three = spelled (codes "absent_over_time") three refl
-    go false one false two false three =
-        absurd (true≢false (sym is ∙ (λ i. (one i || (two i || false)) || (two i || (three i || false)))))
+with_at : OfPunctuators (λ k. k == T_AT) (code "@")
+with_at = record { outside = refl; braces = refl; brackets = refl; word = record { keyword = refl; name = refl; metric = refl; alternative = refl }; other = refl }
 
--- ---- no other token is notable
+with_plus : OfPunctuators (λ k. k == T_ADD) (code "+")
+with_plus = record { outside = refl; braces = refl; brackets = refl; word = record { keyword = refl; name = refl; metric = refl; alternative = refl }; other = refl }
 
-abbrev Marked : ℕ → Text → Text → Type 0
-Marked id w r = is_notable (id, w) ≡ true → has_mark (w ++ r) ≡ true
+with_equal : OfPunctuators (λ k. k == T_EQL) (code "=")
+with_equal = record { outside = refl; braces = refl; brackets = refl; word = record { keyword = refl; name = refl; metric = refl; alternative = refl }; other = refl }
 
-abbrev is_other : ℕ → Bool
-is_other id = id == T_STRING || is_sign id
+-- ---- tokens of which nothing is read otherwise
 
-no_word : OfNoWord is_other
-no_word = record { keyword = refl; name = refl; metric = refl; alternative = refl }
+pub record AreQuiet (ts : Tokens) : Type 0 where
+  pub strings : list_any (is_such T_STRING has_kind) ts ≡ false
+  pub zeros : has_token T_SUB ts && list_any is_zero_number ts ≡ false
+  pub times : has_token T_AT ts && list_any is_fine_number ts ≡ false
+  pub pluses : has_token T_ADD ts && list_any (is_such T_IDENTIFIER looks_at_plus) ts ≡ false
+  pub labels : has_token T_EQL ts && list_any (is_such T_IDENTIFIER looks_at_order) ts ≡ false
 
--- of a word, its text alone tells
-word_has_mark : (id : ℕ) (w r : Text) → is_other id ≡ false → Marked id w r
-word_has_mark id w r none is = go (looks w) refl
-  where
-    no_other : (a s k i : Bool) → a || s ≡ false → (a && k) || (s || (i && false)) ≡ false
-    no_other true s k i miss = absurd (true≢false miss)
-    no_other false true k i miss = absurd (true≢false miss)
-    no_other false false k true miss = refl
-    no_other false false k false miss = refl
+both_later : (a more b others : Bool) → (a || more) && (b || others) ≡ false → more && others ≡ false
+both_later true more true others miss = absurd (true≢false miss)
+both_later false false b others miss = refl
+both_later a true b false miss = refl
+both_later true true false true miss = absurd (true≢false miss)
+both_later true false false others miss = refl
+both_later false true b true miss = absurd (true≢false (sym (or-true b) ∙ miss))
 
-    go : (a : Bool) → looks w ≡ a → has_mark (w ++ r) ≡ true
-    go true name = name_has_mark w r name
-    go false name =
-        absurd (true≢false (sym is ∙ ap (λ a. (id == T_STRING && is_some (string_kind w)) || (is_sign id || (id == T_IDENTIFIER && a))) name
-        ∙ no_other (id == T_STRING) (is_sign id) (is_some (string_kind w)) (id == T_IDENTIFIER) none))
+later : (t : ℕ × Text) (ts : Tokens) → AreQuiet (t ∷ ts) → AreQuiet ts
+later t ts quiet = record {
+  strings = or_right (is_such T_STRING has_kind t) _ quiet.strings;
+  zeros = both_later (t.0 == T_SUB) (has_token T_SUB ts) (is_zero_number t) (list_any is_zero_number ts) quiet.zeros;
+  times = both_later (t.0 == T_AT) (has_token T_AT ts) (is_fine_number t) (list_any is_fine_number ts) quiet.times;
+  pluses = both_later (t.0 == T_ADD) (has_token T_ADD ts) (is_such T_IDENTIFIER looks_at_plus t) (list_any (is_such T_IDENTIFIER looks_at_plus) ts) quiet.pluses;
+  labels = both_later (t.0 == T_EQL) (has_token T_EQL ts) (is_such T_IDENTIFIER looks_at_order t) (list_any (is_such T_IDENTIFIER looks_at_order) ts) quiet.labels;
+}
 
-quiet : (id other : ℕ) (w r : Text) → id ≡ other → is_notable (other, w) ≡ false → Marked id w r
-quiet id other w r same miss is = absurd (true≢false (sym is ∙ ap (λ id. is_notable (id, w)) same ∙ miss))
+-- a sign with a number after it
+no_signed : (a more b others k y : Bool) → (a || more) && (b || others) ≡ false → (others ≡ false → y ≡ false) → a && (k && y) ≡ false
+no_signed false more b others k y miss rest = refl
+no_signed true more b others false y miss rest = refl
+no_signed true more b others true y miss rest = rest (or_right b others miss)
 
-abbrev is_single : ℕ → Bool
-is_single b = list_any (λ mark. b == mark) (code "~" ∷ code "\\" ∷ code "@" ∷ code "-" ∷ [])
+-- a call with something in it
+no_called : (p ps i l ns opens y : Bool) → (p || ps) && ((i && l) || ns) ≡ false → (ps ≡ false → y ≡ false) → (i && (l && opens)) && y ≡ false
+no_called p ps false l ns opens y miss rest = refl
+no_called p ps true false ns opens y miss rest = refl
+no_called p ps true true ns false y miss rest = refl
+no_called true ps true true ns true y miss rest = absurd (true≢false miss)
+no_called false true true true ns true y miss rest = absurd (true≢false miss)
+no_called false false true true ns true y miss rest = rest refl
 
--- (the other part of a mark)
-abbrev name_begins : ℕ → Text → Bool
-name_begins b z = (b == code "a" && bytes_eq (take 5 z) (codes "bsent")) || (b == code "t" && bytes_eq (take 8 z) (codes "imestamp"))
+no_other_kind : (naught fine signed twice : Bool) → naught ≡ false → fine ≡ false → signed ≡ false → twice ≡ false
+    → cond naught (Some kind.NegativeZero) (cond fine (Some kind.PartOfMillisecond) (cond signed (Some kind.Plus) (cond twice (Some kind.RepeatedLabel) None))) ≡ None
+no_other_kind naught fine signed twice one two three four =
+    λ i. cond (one i) (Some kind.NegativeZero) (cond (two i) (Some kind.PartOfMillisecond) (cond (three i) (Some kind.Plus) (cond (four i) (Some kind.RepeatedLabel) None)))
 
-single_in_front : (w r : Text) → list_any is_single w ≡ true → has_mark (w ++ r) ≡ true
-single_in_front [] r has = absurd (true≢false (sym has))
-single_in_front (b ∷ w) r has = go (is_single b) refl (single_in_front w r)
-  where
-    go : (a : Bool) → is_single b ≡ a → (list_any is_single w ≡ true → has_mark (w ++ r) ≡ true) → has_mark (b ∷ (w ++ r)) ≡ true
-    go true is rest = ap (λ a. (a || name_begins b (w ++ r)) || has_mark (w ++ r)) is
-    go false is rest = ap (λ a. is_mark b (w ++ r) || a) (rest (ap (λ a. a || list_any is_single w) (sym is) ∙ has)) ∙ or-true (is_mark b (w ++ r))
+no_some : (o : Option DifferenceKind) → is_some o ≡ false → o ≡ None
+no_some None miss = refl
+no_some (Some k) miss = absurd (true≢false miss)
 
-abbrev is_marked_row : Text × ℕ × Text → Bool
-is_marked_row s = not (is_notable (s.1, s.0)) || list_any is_single s.0
-
-implied : (a b : Bool) → not a || b ≡ true → a ≡ true → b ≡ true
-implied true b is hit = is
-implied false b is hit = absurd (true≢false (sym hit))
-
-one_of : (ss : List (Text × ℕ × Text)) (id : ℕ) (w r : Text) → list_all is_marked_row ss ≡ true → IsOneOf ss id w r → Marked id w r
-one_of [] id w r all one is = absurd one
-one_of (s ∷ ss) id w r all (inl (text, same, rest)) is =
-    single_in_front w r (ap (list_any is_single) text ∙ implied (is_notable (s.1, s.0)) (list_any is_single s.0) (and_parts (is_marked_row s) (list_all is_marked_row ss) all).0
-    ((λ i. is_notable (sym same i, sym text i)) ∙ is))
-one_of (s ∷ ss) id w r all (inr one) is = one_of ss id w r (and_parts (is_marked_row s) (list_all is_marked_row ss) all).1 one is
-
-rows_outside : (depth : ℕ) → list_all is_marked_row (punctuators mode.Outside depth) ≡ true
-rows_outside zero = refl
-rows_outside (suc depth) = refl
-
-string_marked : (id : ℕ) (w r : Text) → id ≡ T_STRING → Marked id w r
-string_marked id w r same is = string_has_mark w r (implied_some (is_some (string_kind w)) (sym (ap (λ id. is_notable (id, w)) same) ∙ is))
-  where
-    implied_some : (k : Bool) → k || false ≡ true → k ≡ true
-    implied_some true is = refl
-    implied_some false is = is
-
-marked : (m : Mode) (depth id : ℕ) (w r : Text) → MayBegin m depth id w r → Marked id w r
-marked mode.Outside depth id w r (inl one) = one_of (punctuators mode.Outside depth) id w r (rows_outside depth) one
-marked mode.Outside depth id w r (inr (inl word)) = word_has_mark id w r (ap is_other word.2 ∙ word_is_none is_other no_word w r)
-marked mode.Outside depth id w r (inr (inr (inl (ends, inl number)))) = quiet id _ w r number.0 refl
-marked mode.Outside depth id w r (inr (inr (inl (ends, inr duration)))) = quiet id _ w r duration.0 refl
-marked mode.Outside depth id w r (inr (inr (inr string))) = string_marked id w r string.0
-marked mode.Braces depth id w r (inl one) = one_of (punctuators mode.Braces depth) id w r refl one
-marked mode.Braces depth id w r (inr (inl name)) = word_has_mark id w r (ap is_other name.2 ∙ name_in_braces_is_none is_other no_word w r)
-marked mode.Braces depth id w r (inr (inr string)) = string_marked id w r string.0
-marked (mode.Brackets bracket.Something) depth id w r (inl one) = one_of (punctuators (mode.Brackets bracket.Something) depth) id w r refl one
-marked (mode.Brackets bracket.Colon) depth id w r (inl one) = one_of (punctuators (mode.Brackets bracket.Colon) depth) id w r refl one
-marked (mode.Brackets bracket.Nothing) depth id w r (inl one) = one_of (punctuators (mode.Brackets bracket.Nothing) depth) id w r refl one
-marked (mode.Brackets inside) depth id w r (inr (digit, (ends, inl number))) = quiet id _ w r number.0 refl
-marked (mode.Brackets inside) depth id w r (inr (digit, (ends, inr duration))) = quiet id _ w r duration.0 refl
-
-without_more : (b : ℕ) (z : Text) → has_mark (b ∷ z) ≡ false → has_mark z ≡ false
-without_more b z miss = or_right (is_mark b z) (has_mark z) miss
-
-needs_mark : NeedsText is_notable has_mark
-needs_mark = record { more = without_more; ends = λ w. refl; begins = marked }
-
--- ---- and so a text without one is read as it is printed
-
-no_some : (o : Option DifferenceKind) (rest : Bool) → is_some o || rest ≡ false → o ≡ None
-no_some None rest miss = refl
-no_some (Some k) rest miss = absurd (true≢false miss)
-
-no_other_kind : (minus at name plus order naught fine opens signed twice : Bool) → (minus || at) || (name && (plus || order)) ≡ false
-    → cond (minus && naught) (Some kind.NegativeZero) (cond (at && fine) (Some kind.PartOfMillisecond)
-    (cond ((name && (plus && opens)) && signed) (Some kind.Plus) (cond ((name && (order && opens)) && twice) (Some kind.RepeatedLabel) None))) ≡ None
-no_other_kind true at name plus order naught fine opens signed twice miss = absurd (true≢false miss)
-no_other_kind false true name plus order naught fine opens signed twice miss = absurd (true≢false miss)
-no_other_kind false false true true order naught fine opens signed twice miss = absurd (true≢false miss)
-no_other_kind false false true false true naught fine opens signed twice miss = absurd (true≢false miss)
-no_other_kind false false true false false naught fine opens signed twice miss = refl
-no_other_kind false false false plus order naught fine opens signed twice miss = refl
-
-no_kind_at : (before : ℕ) (t : ℕ × Text) (ts : Tokens) → is_notable t ≡ false → kind_at before t ts ≡ None
-no_kind_at before t ts miss =
-    let others = is_sign t.0 || (t.0 == T_IDENTIFIER && looks t.1) in
+no_kind_at : (before : ℕ) (t : ℕ × Text) (ts : Tokens) → AreQuiet (t ∷ ts) → kind_at before t ts ≡ None
+no_kind_at before t ts quiet =
     cond_both (t.0 == T_STRING) _ _ (λ o. o ≡ None)
-    (λ is. no_some (string_kind t.1) others (ap (λ a. (a && is_some (string_kind t.1)) || others) (sym is) ∙ miss))
-    (λ no. no_other_kind (t.0 == T_SUB) (t.0 == T_AT) (t.0 == T_IDENTIFIER) (looks_at_plus t.1) (looks_at_order t.1) _ _ (comes_first T_LEFT_PAREN ts)
-    (comes_first T_ADD (in_parens ts)) (clashes (matched_labels [] (after_brace (in_parens ts)))) (ap (λ a. (a && is_some (string_kind t.1)) || others) (sym no) ∙ miss))
+    (λ is. no_some (string_kind t.1) (ap (λ a. a && has_kind t.1) (sym is) ∙ or_left (is_such T_STRING has_kind t) _ quiet.strings))
+    (λ _. no_other_kind _ _ _ _
+    (no_signed (t.0 == T_SUB) (has_token T_SUB ts) (is_zero_number t) (list_any is_zero_number ts) (is_before_operand before) (begins_with_zero (after_signs ts))
+    quiet.zeros (no_zero_after_signs ts))
+    (no_signed (t.0 == T_AT) (has_token T_AT ts) (is_fine_number t) (list_any is_fine_number ts) true (begins_with_fine (after_signs ts))
+    quiet.times (no_fine_after_signs ts))
+    (no_called (t.0 == T_ADD) (has_token T_ADD ts) (t.0 == T_IDENTIFIER) (looks_at_plus t.1) _ (comes_first T_LEFT_PAREN ts) (comes_first T_ADD (in_parens ts))
+    quiet.pluses (λ none. none_first T_ADD (in_parens ts) (none_in_parens T_ADD ts none)))
+    (no_called (t.0 == T_EQL) (has_token T_EQL ts) (t.0 == T_IDENTIFIER) (looks_at_order t.1) _ (comes_first T_LEFT_PAREN ts)
+    (clashes (matched_labels [] (after_brace (in_parens ts)))) quiet.labels (no_repeated_label ts)))
 
-no_kinds : (limits : Limits) (n before : ℕ) (ts : Tokens) → list_any is_notable ts ≡ false → kinds limits n before ts ≡ []
-no_kinds limits n before [] miss = refl
-no_kinds limits n before (t ∷ ts) miss =
-    ap (λ o. option_to_list (option_map (λ kind. (n, kind)) (counted limits o)) ++ kinds limits (n + 1) (stands_for before t.0) ts)
-    (no_kind_at before t ts (or_left (is_notable t) (list_any is_notable ts) miss))
-    ∙ no_kinds limits (n + 1) (stands_for before t.0) ts (or_right (is_notable t) (list_any is_notable ts) miss)
+no_kinds : (limits : Limits) (n before : ℕ) (ts : Tokens) → AreQuiet ts → kinds limits n before ts ≡ []
+no_kinds limits n before [] quiet = refl
+no_kinds limits n before (t ∷ ts) quiet =
+    ap (λ o. option_to_list (option_map (λ kind. (n, kind)) (counted limits o)) ++ kinds limits (n + 1) (stands_for before t.0) ts) (no_kind_at before t ts quiet)
+    ∙ no_kinds limits (n + 1) (stands_for before t.0) ts (later t ts quiet)
+
+-- ---- and so are those of a text without a mark
+
+-- where a text lacks one of two things, its tokens lack one of two kinds
+lacks_either : (x y a b : Bool) → (x ≡ false → a ≡ false) → (y ≡ false → b ≡ false) → x && y ≡ false → a && b ≡ false
+lacks_either false y a b first second miss = ap (λ a. a && b) (first refl)
+lacks_either true y a b first second miss = and_false a (second miss)
+  where
+    and_false : (a : Bool) → b ≡ false → a && b ≡ false
+    and_false true none = none
+    and_false false none = refl
+
+quiet_tokens : (s : Text) → has_mark s ≡ false → AreQuiet (tokens_up_to_fault s)
+quiet_tokens s miss = record {
+  strings = none_such (is_such T_STRING has_kind) (has (code "\\")) needs_backslash s (or_left (has (code "\\") s) _ miss);
+  zeros = lacks_either (has (code "-") s) (may_have_zero s) _ _ (none_such (λ t. t.0 == T_SUB) (has (code "-")) (needs_operator T_SUB (code "-") with_minus) s)
+      (none_such is_zero_number may_have_zero needs_zero s) (or_left _ _ after_escapes);
+  times = lacks_either (has (code "@") s) (may_have_fine s) _ _ (none_such (λ t. t.0 == T_AT) (has (code "@")) (needs_operator T_AT (code "@") with_at) s)
+      (none_such is_fine_number may_have_fine needs_point s) (or_left _ _ after_zeros);
+  pluses = lacks_either (has (code "+") s) (may_look_at_plus s) _ _ (none_such (λ t. t.0 == T_ADD) (has (code "+")) (needs_operator T_ADD (code "+") with_plus) s)
+      (none_such (is_such T_IDENTIFIER looks_at_plus) may_look_at_plus needs_plus_name s) (or_left _ _ after_times);
+  labels = lacks_either (has (code "=") s) (has_text (codes "bsent") s) _ _ (none_such (λ t. t.0 == T_EQL) (has (code "=")) (needs_operator T_EQL (code "=") with_equal) s)
+      (none_such (is_such T_IDENTIFIER looks_at_order) (has_text (codes "bsent")) needs_order_name s) (or_right _ _ after_times);
+}
+  where
+    after_escapes : (has (code "-") s && may_have_zero s) || ((has (code "@") s && may_have_fine s) || ((has (code "+") s && may_look_at_plus s) || (has (code "=") s && has_text (codes "bsent") s))) ≡ false
+    after_escapes = or_right (has (code "\\") s) _ miss
+
+    after_zeros : (has (code "@") s && may_have_fine s) || ((has (code "+") s && may_look_at_plus s) || (has (code "=") s && has_text (codes "bsent") s)) ≡ false
+    after_zeros = or_right (has (code "-") s && may_have_zero s) _ after_escapes
+
+    after_times : (has (code "+") s && may_look_at_plus s) || (has (code "=") s && has_text (codes "bsent") s) ≡ false
+    after_times = or_right (has (code "@") s && may_have_fine s) _ after_zeros
 
 pub no_difference_without_mark : (limits : Limits) (s : Text) → has_mark s ≡ false → difference limits s ≡ None
-no_difference_without_mark limits s miss = ap (λ ks. option_and_then (difference_at s) (slice_get ks 0)) (no_kinds limits 0 T_LEFT_PAREN (tokens_up_to_fault s)
-    (none_such is_notable has_mark needs_mark s miss))
-
--- nor a pattern, whose operator has a tilde
-pub no_tilde_without_mark : (s : Text) → has_mark s ≡ false → has_tilde s ≡ false
-no_tilde_without_mark [] miss = refl
-no_tilde_without_mark (b ∷ z) miss =
-    let rest = no_tilde_without_mark z (or_right (is_mark b z) (has_mark z) miss) in
-    ap (λ a. a || has_tilde z) (or_left (b == code "~") _ (or_left (is_single b) (name_begins b z) (or_left (is_mark b z) (has_mark z) miss))) ∙ rest
+no_difference_without_mark limits s miss =
+    ap (λ ks. option_and_then (difference_at s) (slice_get ks 0)) (no_kinds limits 0 T_LEFT_PAREN (tokens_up_to_fault s) (quiet_tokens s miss))

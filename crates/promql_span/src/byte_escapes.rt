@@ -13,10 +13,13 @@ use promql_token::ids::T_STRING;
 const ESCAPE_LEN: usize = 4;
 
 /// The first escape of a byte of 128 and more in the strings of a text, which is for a character here and for a byte in
-/// Prometheus: docs/reference/texts.md, "Byte escapes".
+/// Prometheus: docs/reference/texts.md, "Byte escapes". A text without a backslash is not lexed.
 pub fn byte_escape(text: &str) -> Option<Span>
     ensures { result ≡ spec.byte_escape text.now }
 {
+    if !text.as_bytes().contains(&b'\\') {
+        return None;
+    }
     for token in PlacedTokens::new(text) {
         let escape = escape_in(text, token);
         if escape.is_some() {

@@ -1,12 +1,12 @@
 //! A pass over the tokens of a query: what its patterns measure, and the first part that its target reads otherwise.
 
-ghost use Rattle.std.specs.Prelude.{◌≡◌, ◌≤◌, ◌==◌, ◌||◌, ◌∷◌, [], false, IfOk, length, MatchOption, None, OnOk, option_map};
+ghost use Rattle.std.specs.Prelude.{◌≡◌, ◌≢◌, ◌<◌, ◌≤◌, ◌==◌, ◌||◌, ◌∷◌, ◌⊎◌, [], false, true, IfOk, length, MatchOption, None, OnOk, option_map};
 ghost use Rattle.std.specs.Option.{option_or};
 ghost use Rattle.promql_text.specs.Texts.{Text};
 ghost use Rattle.promql_token.specs.Cursor.{tokens_left, tokens_up_to_fault};
 ghost use Rattle.promql_span.specs.Differences as spec;
 ghost use Rattle.promql_span.specs.Inspections.{IsInspected};
-ghost use Rattle.promql_span.specs.QueryLimits.{IsLimitFault, IsWithin};
+ghost use Rattle.promql_span.specs.QueryLimits.{IsLimitFault, IsWithin, patterns_size};
 ghost use Rattle.promql_span.specs.declared.limits.Limits as bounds;
 
 use crate::differences::{Difference, DifferenceKind, difference_at};
@@ -97,7 +97,9 @@ impl Inspection {
     /// Whether a token was found with which the query is over a limit, or is read otherwise.
     #[inline(always)]
     pub fn has_found(&self) -> bool
-        ensures { result ≡ false → (limits : bounds.Limits) (query : Text) → IsInspected limits query [] self.now → spec.difference limits query ≡ None }
+        ensures none { result ≡ false → (limits : bounds.Limits) (query : Text) → IsInspected limits query [] self.now → spec.difference limits query ≡ None }
+        ensures some { result ≡ true → (limits : bounds.Limits) (query : Text) → IsInspected limits query [] self.now
+            → (limits.max_pattern_size < patterns_size query) ⊎ (spec.kinds_of limits query ≢ []) }
     {
         self.measured.is_over() || self.otherwise.is_some()
     }

@@ -1,7 +1,7 @@
 //! The limits of a query, which are checked before it is parsed and anything of it is compiled, and of what is printed of it:
 //! docs/reference/programs.md, "Limits of a query".
 
-ghost use Rattle.std.specs.Prelude.{◌≡◌, ◌++◌, ◌-◌, ◌^◌, ◌&&◌, ◌==◌, [], ◌∷◌, drop, false, if◌then◌else◌, length, min, ℕ, IfErr, IfOk, List, MatchOption, OnOk};
+ghost use Rattle.std.specs.Prelude.{◌≡◌, ◌++◌, ◌-◌, ◌^◌, ◌&&◌, ◌==◌, [], ◌∷◌, drop, false, if◌then◌else◌, is_some, length, min, ℕ, IfErr, IfOk, List, MatchOption, OnOk};
 ghost use Rattle.std.specs.List.{list_any};
 ghost use Rattle.promql_text.specs.Texts.{code};
 ghost use Rattle.std.specs.Prelude.{◌<◌, ◌≤◌};
@@ -156,17 +156,11 @@ impl From<AllocError> for LimitFault {
 }
 
 /// Whether a query may have a pattern: the operators before patterns have a tilde.
-#[tactic(auto, using(std::proofs::lemmas::Grind::common_steps))]
 pub fn may_have_pattern(query: &str) -> bool
     ensures tilde { result ≡ list_any (λ b. b == code "~") query.now }
     ensures none { result ≡ false → spec.patterns_size query.now ≡ 0 }
 {
-    for &byte in query.as_bytes() {
-        if byte == b'~' {
-            return true;
-        }
-    }
-    false
+    query.as_bytes().contains(&b'~')
 }
 
 /// Checks that a query is within its limits. Each string directly after `=~` or `!~`, up to a lexical fault, is a pattern.
@@ -265,7 +259,9 @@ impl Measured {
 
     /// Whether the sum is more than it may be.
     #[inline(always)]
-    pub(crate) fn is_over(&self) -> bool {
+    pub(crate) fn is_over(&self) -> bool
+        ensures { result ≡ is_some self.now.passed }
+    {
         self.passed.is_some()
     }
 

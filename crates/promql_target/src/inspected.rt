@@ -1,15 +1,15 @@
 //! All that one pass over the tokens of a query tells of it: docs/reference/programs.md, "Limits of a query" and "Targets".
 
-ghost use Rattle.std.specs.Prelude.{◌≡◌, ◌≤◌, [], IfErr, IfOk, length, None, true};
+ghost use Rattle.std.specs.Prelude.{◌≡◌, ◌≤◌, [], IfErr, IfOk, false, length, None};
 ghost use Rattle.promql_span.specs.Differences.{difference};
 ghost use Rattle.promql_span.specs.Inspections.{IsInspected};
-ghost use Rattle.promql_span.specs.QueryLimits.{IsLimitFault, IsWithin, patterns_size};
+ghost use Rattle.promql_span.specs.QueryLimits.{IsLimitFault, IsWithin};
 ghost use Rattle.promql_span.specs.declared.target.Target.TheVariants.{Rules};
 ghost use Rattle.promql_target.specs.Refusals as spec;
 ghost use Rattle.promql_target.specs.Searching.{IsSearched};
 
 use crate::refusal::{FoundRefusal, Refusal, first_refusal};
-use promql_span::limits::{LimitFault, Limits, may_have_pattern};
+use promql_span::limits::{LimitFault, Limits, check_limits, may_have_pattern};
 use promql_span::{Difference, Inspection, Printed, Target, has_mark, inspect_tokens};
 use promql_token::cursor::Cursor;
 use std::alloc::Global;
@@ -33,18 +33,13 @@ fn checked_by(printed: Printed, target: Target) -> Target
     }
 }
 
-/// Whether a pass over the tokens of a query finds nothing, since it has nothing of which something may be found. A query that is checked may.
-fn has_nothing_to_find(limits: &Limits, query: &str) -> bool
-    ensures patterns { result ≡ true → patterns_size query.now ≡ 0 }
-    ensures difference { result ≡ true → difference limits.now query.now ≡ None }
-    ensures refusal { result ≡ true → spec.refusal limits.now query.now ≡ None }
+/// Whether the target may read a part of the query otherwise.
+fn may_differ(limits: &Limits, query: &str) -> bool
+    ensures { result ≡ false → difference limits.now query.now ≡ None }
 {
-    match checked_by(limits.printed, limits.target) {
-        Target::Rules => match limits.target {
-            Target::Rules => !may_have_pattern(query),
-            Target::Prometheus2 | Target::Prometheus3 => !has_mark(query),
-        },
-        Target::Prometheus2 | Target::Prometheus3 => false,
+    match limits.target {
+        Target::Rules => false,
+        Target::Prometheus2 | Target::Prometheus3 => has_mark(query),
     }
 }
 
@@ -65,15 +60,11 @@ pub fn inspect(alloc: Global, limits: &Limits, query: &str) -> Result<Inspected,
     if len > most {
         return Err(LimitFault::TooLong { len, most });
     }
-    if has_nothing_to_find(limits, query) {
-        return Ok(Inspected {
-            difference: None,
-            refusal: None,
-        });
-    }
     match checked_by(limits.printed, limits.target) {
         Target::Rules => inspect_printed(alloc, limits, query),
-        target if has_mark(query) => inspect_checked(alloc, limits, query, target),
+        target if may_have_pattern(query) || may_differ(limits, query) => {
+            inspect_checked(alloc, limits, query, target)
+        }
         target => Ok(Inspected {
             difference: None,
             refusal: first_refusal(target, query),
@@ -90,6 +81,13 @@ fn inspect_printed(alloc: Global, limits: &Limits, query: &str) -> Result<Inspec
     ensures refusal { IfOk result (λ i. i.refusal ≡ spec.refusal limits.now query.now) }
     ensures fault { IfErr result (IsLimitFault query.now limits.now) }
 {
+    if !may_differ(limits, query) {
+        check_limits(alloc, query, limits)?;
+        return Ok(Inspected {
+            difference: None,
+            refusal: None,
+        });
+    }
     let inspection = inspect_tokens(alloc, limits, query)?;
     match inspection.limit_fault(limits) {
         Some(fault) => Err(fault),
