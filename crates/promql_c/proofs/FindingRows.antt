@@ -4,7 +4,7 @@ use Rattle.std.proofs.Math.Seq.{take-length}
 use Rattle.std.proofs.lemmas.List.{append_assoc, map-append}
 use Rattle.serde_json.specs.Data.{Data}
 use Rattle.promql_text.specs.Texts.{Text}
-use Rattle.promql_report.specs.declared.findings.Finding.{Finding}
+use Rattle.promql_query.specs.declared.findings.Finding.{Finding}
 use Rattle.promql_c.specs.FindingsText.{row_value}
 
 -- each finding but those that are left has a row

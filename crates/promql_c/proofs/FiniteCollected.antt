@@ -8,9 +8,9 @@ use Rattle.serde_json.specs.Written.{has_float, items_have_float}
 use Rattle.promql_text.specs.Texts.{Text}
 use Rattle.promql_rewrite.specs.Collecting.{Selection, selected}
 use Rattle.promql_c.specs.CollectedJson.{collected_value, selector_value}
-use Rattle.promql_lines.specs.Batch.{texts}
+use Rattle.promql_query.specs.Batch.{texts}
 use Rattle.promql_c.specs.FindingsText.{row_value}
-use Rattle.promql_report.specs.declared.findings.Finding.{Finding}
+use Rattle.promql_query.specs.declared.findings.Finding.{Finding}
 use Rattle.promql_c.specs.PartsText.{part_value, parts_value}
 use Rattle.promql_c.specs.PlacesText.{span_value}
 use Rattle.promql_c.specs.TokensText.{token_value}

@@ -8,8 +8,8 @@ use Rattle.promql_text.specs.Texts.{Text}
 use Rattle.promql_grammar.specs.Results.{on_result}
 use Rattle.promql_ast.specs.Tree.{Tree}
 use Rattle.promql_rewrite.specs.Selecting.{Series}
-use Rattle.promql_lines.specs.declared.query_error.QueryError.{QueryError}
-use Rattle.promql_lines.specs.declared.query_error.QueryError.TheVariants.{Memory}
+use Rattle.promql_query.specs.declared.query_error.QueryError.{QueryError}
+use Rattle.promql_query.specs.declared.query_error.QueryError.TheVariants.{Memory}
 use Rattle.promql_when.specs.MayRead.{may_read, series_of}
 use Rattle.promql_when.specs.declared.series.SeriesLabel.{SeriesLabel}
 use Rattle.promql_c.specs.Calls.{GivesMayRead}

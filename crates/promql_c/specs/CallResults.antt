@@ -1,9 +1,9 @@
 -- What a call returns, and what it leaves in its caller's buffer (docs/guide/bindings.md, "Results").
 use Rattle.std.specs.Prelude.{◌≡◌, ℕ, ◌<◌, ◌≤◌, nat_le, if◌then◌else◌, List, ◌++◌, drop, length, Option, Some, None, option_map, Result, Ok, Err}
 use Rattle.promql_text.specs.Texts.{Text}
-use Rattle.promql_lines.specs.QueryErrors.{query_error_number, rejected_in}
-use Rattle.promql_lines.specs.declared.query_error.QueryError.{QueryError}
-use Rattle.promql_report.specs.declared.rejection.Rejection.{Rejection}
+use Rattle.promql_query.specs.QueryErrors.{query_error_number, rejected_in}
+use Rattle.promql_query.specs.declared.query_error.QueryError.{QueryError}
+use Rattle.promql_query.specs.declared.rejection.Rejection.{Rejection}
 use Rattle.promql_c.specs.declared.call_result.CallResult.{CallResult}
 
 -- the text is at the start of the buffer, and the rest of it is as it was; where the text does not fit, all of it is

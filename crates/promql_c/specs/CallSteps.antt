@@ -4,10 +4,10 @@ use Rattle.std.specs.Str.{IsUtf8}
 use Rattle.promql_text.specs.Texts.{Text}
 use Rattle.promql_span.specs.declared.limits.Limits.{Limits}
 use Rattle.promql_rewrite.specs.declared.matcher_text.MatcherError.TheVariants as matcher_error
-use Rattle.promql_lines.specs.EnforcedLines.{IsEnforcedLine}
-use Rattle.promql_lines.specs.QueryErrors.{OfTree}
-use Rattle.promql_lines.specs.declared.query_error.QueryError.{QueryError}
-use Rattle.promql_lines.specs.declared.query_error.QueryError.TheVariants as error
+use Rattle.promql_query.specs.EnforcedLines.{IsEnforcedLine}
+use Rattle.promql_query.specs.QueryErrors.{OfTree}
+use Rattle.promql_query.specs.declared.query_error.QueryError.{QueryError}
+use Rattle.promql_query.specs.declared.query_error.QueryError.TheVariants as error
 
 -- the line with the matcher in every selector
 abbrev pub EnforcesBytes : Limits → Text → Text → Result Text QueryError → Type 0

@@ -8,27 +8,27 @@ use Rattle.promql_ast.specs.Text as one_line
 use Rattle.promql_ast.specs.Tree.{Tree}
 use Rattle.promql_span.specs.declared.limits.Limits.{Limits}
 use Rattle.promql_rewrite.specs.declared.matcher_text.MatcherError.TheVariants as matcher_error
-use Rattle.promql_report.specs.Rejecting.{IsMessage, IsParsed, IsRejection, marked_line, reason_number}
-use Rattle.promql_lines.specs.Batch.{error_value}
-use Rattle.promql_lines.specs.Telling.{IsToldWith}
-use Rattle.promql_lines.specs.declared.rejected_query.RejectedQuery.{RejectedQuery}
-use Rattle.promql_lines.specs.EnforcedLines.{IsEnforcedLine}
+use Rattle.promql_query.specs.Rejecting.{IsMessage, IsParsed, IsRejection, marked_line, reason_number}
+use Rattle.promql_query.specs.Batch.{error_value}
+use Rattle.promql_query.specs.Telling.{IsToldWith}
+use Rattle.promql_query.specs.declared.rejected_query.RejectedQuery.{RejectedQuery}
+use Rattle.promql_query.specs.EnforcedLines.{IsEnforcedLine}
 use Rattle.promql_formatter.specs.declared.options.FormatOptions.{FormatOptions}
-use Rattle.promql_lines.specs.FormattedQueries.{IsFormattedQuery}
-use Rattle.promql_lines.specs.QueryErrors.{Gives, IsOutput, OfTree, Prints, Then}
-use Rattle.promql_lines.specs.RenamedLines.{IsRenamedLine, renaming}
-use Rattle.promql_lines.specs.declared.query_error.QueryError.{QueryError}
-use Rattle.promql_lines.specs.declared.query_error.QueryError.TheVariants as error
-use Rattle.promql_lines.specs.declared.renamed_line.Named.{Named}
-use Rattle.promql_lines.specs.TreeTexts.{PrintsForm}
-use Rattle.promql_lines.specs.WindowsText.{GivesWindows, IsLastReadText, Overflows}
+use Rattle.promql_query.specs.FormattedQueries.{IsFormattedQuery}
+use Rattle.promql_query.specs.QueryErrors.{Gives, IsOutput, OfTree, Prints, Then}
+use Rattle.promql_query.specs.RenamedLines.{IsRenamedLine, renaming}
+use Rattle.promql_query.specs.declared.query_error.QueryError.{QueryError}
+use Rattle.promql_query.specs.declared.query_error.QueryError.TheVariants as error
+use Rattle.promql_query.specs.declared.renamed_line.Named.{Named}
+use Rattle.promql_query.specs.TreeTexts.{PrintsForm}
+use Rattle.promql_query.specs.WindowsText.{GivesWindows, IsLastReadText, Overflows}
 use Rattle.promql_run.specs.declared.format.Format.{Format}
 use Rattle.promql_when.specs.Pinned.{asks_grid, pinned}
 use Rattle.promql_when.specs.Reached.{evaluation, reach_overflow}
 use Rattle.promql_when.specs.Reads.{overflow}
 use Rattle.promql_when.specs.Windows.{instant}
 use Rattle.promql_when.specs.declared.times.Times.{Times}
-use Rattle.promql_lines.specs.declared.mode.Mode.{Mode}
+use Rattle.promql_query.specs.declared.mode.Mode.{Mode}
 use Rattle.promql_c.specs.ReachesText.{IsReachesText}
 use Rattle.promql_c.specs.SeriesText.{AreNoLabels, IsMayReadText}
 use Rattle.promql_c.specs.TokensText.{GivesTokens}

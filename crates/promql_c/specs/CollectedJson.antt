@@ -5,7 +5,7 @@ use Rattle.promql_text.specs.DurationText.{duration_text}
 use Rattle.promql_text.specs.Texts.{Text}
 use Rattle.promql_ast.specs.Shifts.{shift_text, moment_text}
 use Rattle.promql_json.specs.JsonParts.{list, or_null}
-use Rattle.promql_lines.specs.Batch.{texts}
+use Rattle.promql_query.specs.Batch.{texts}
 use Rattle.promql_rewrite.specs.Collecting.{Selection, selected}
 
 -- the times as they print

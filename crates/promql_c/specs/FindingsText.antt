@@ -4,8 +4,8 @@ use Rattle.serde_json.specs.Data.{Data, number, string, unsigned}
 use Rattle.serde_json.specs.Written.{compact_text}
 use Rattle.promql_text.specs.Texts.{Text}
 use Rattle.promql_json.specs.JsonParts.{list}
-use Rattle.promql_report.specs.Rejecting.{findings, reason_number}
-use Rattle.promql_report.specs.declared.findings.Finding.{Finding}
+use Rattle.promql_query.specs.Rejecting.{findings, reason_number}
+use Rattle.promql_query.specs.declared.findings.Finding.{Finding}
 use Rattle.promql_span.specs.declared.limits.Limits.{Limits}
 
 -- the number of the error, where the part begins and ends, and the message

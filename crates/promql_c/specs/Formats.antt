@@ -2,10 +2,10 @@
 use Rattle.std.specs.Prelude.{ℕ, ◌==◌, ◌||◌, nat_le, not, if◌then◌else◌, Option, Some, None, option_map}
 use Rattle.promql_c.specs.declared.calls.TheConstants.{SORTED_MATCHERS}
 use Rattle.promql_formatter.specs.declared.options.FormatOptions.{FormatOptions}
-use Rattle.promql_lines.specs.declared.mode.Mode.{Mode}
-use Rattle.promql_lines.specs.declared.mode.Mode.TheVariants.{Plain, Placed}
-use Rattle.promql_lines.specs.declared.renamed_line.Named.{Named}
-use Rattle.promql_lines.specs.declared.renamed_line.Named.TheVariants as named
+use Rattle.promql_query.specs.declared.mode.Mode.{Mode}
+use Rattle.promql_query.specs.declared.mode.Mode.TheVariants.{Plain, Placed}
+use Rattle.promql_query.specs.declared.renamed_line.Named.{Named}
+use Rattle.promql_query.specs.declared.renamed_line.Named.TheVariants as named
 use Rattle.promql_run.specs.declared.format.Format.{Format}
 use Rattle.promql_run.specs.declared.format.Format.TheVariants.{Pretty, Line, Json}
 use Rattle.promql_span.specs.declared.limits.Limits.{Limits}

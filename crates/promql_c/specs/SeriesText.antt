@@ -8,10 +8,10 @@ use Rattle.promql_text.specs.Texts.{Text}
 use Rattle.promql_ast.specs.Tree.{Tree}
 use Rattle.promql_rewrite.specs.Selecting.{Series}
 use Rattle.promql_when.specs.MayRead.{may_read}
-use Rattle.promql_lines.specs.declared.labels_fault.LabelsFault.{LabelsFault}
-use Rattle.promql_lines.specs.declared.labels_fault.LabelsFault.TheVariants as fault
-use Rattle.promql_lines.specs.declared.query_error.QueryError.{QueryError}
-use Rattle.promql_lines.specs.declared.query_error.QueryError.TheVariants as error
+use Rattle.promql_query.specs.declared.labels_fault.LabelsFault.{LabelsFault}
+use Rattle.promql_query.specs.declared.labels_fault.LabelsFault.TheVariants as fault
+use Rattle.promql_query.specs.declared.query_error.QueryError.{QueryError}
+use Rattle.promql_query.specs.declared.query_error.QueryError.TheVariants as error
 
 -- the series with this label, too
 abbrev pub with_label : Text → Text → Series → Series

@@ -9,9 +9,9 @@ use Rattle.promql_token.specs.declared.ids.TheConstants.{T_COMMENT, T_DURATION, 
 use Rattle.promql_token.specs.declared.lexeme.Lexeme.{Lexeme}
 use Rattle.promql_json.specs.JsonParts.{list}
 use Rattle.promql_span.specs.declared.limits.Limits.{Limits}
-use Rattle.promql_lines.specs.QueryErrors.{ReadsQuery}
-use Rattle.promql_lines.specs.declared.query_error.QueryError.{QueryError}
-use Rattle.promql_lines.specs.declared.query_error.QueryError.TheVariants as error
+use Rattle.promql_query.specs.QueryErrors.{ReadsQuery}
+use Rattle.promql_query.specs.declared.query_error.QueryError.{QueryError}
+use Rattle.promql_query.specs.declared.query_error.QueryError.TheVariants as error
 
 -- what kind of token an id is of
 abbrev pub kind_name : ℕ → Text

@@ -3,11 +3,11 @@
 ghost use Rattle.std.specs.Prelude.{◌≡◌, None, Some, Ok, Err, if◌then◌else◌, nat_le, option_map, string_bytes};
 ghost use Rattle.promql_grammar.specs.Results.{on_result};
 ghost use Rattle.promql_c.specs.CallResults.{IsStored, Shows, placed_result};
-ghost use Rattle.promql_lines.specs.QueryErrors.{query_error_number, rejected_in};
+ghost use Rattle.promql_query.specs.QueryErrors.{query_error_number, rejected_in};
 
-use promql_lines::matcher_reason::error_message;
-use promql_lines::query_error::QueryError;
-use promql_report::rejection::Rejection;
+use promql_query::matcher_reason::error_message;
+use promql_query::query_error::QueryError;
+use promql_query::rejection::Rejection;
 use std::alloc::Global;
 
 /// What a call returns beside the bytes that it writes (docs/guide/bindings.md, "Results").

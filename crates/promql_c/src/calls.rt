@@ -10,7 +10,7 @@ ghost use Rattle.promql_span.specs.Targets.{for_rules};
 ghost use Rattle.promql_c.specs.Formats.{format_numbered, format_options, mode_numbered, named_numbered};
 ghost use Rattle.promql_c.specs.PartsText.{IsPartsText};
 ghost use Rattle.promql_c.specs.PlacesText.{IsPlacesText};
-ghost use Rattle.promql_lines.specs.WindowsText.{IsConstantText};
+ghost use Rattle.promql_query.specs.WindowsText.{IsConstantText};
 
 use crate::call_result::{CallResult, show, show_enforced, show_text};
 use crate::collecting::CollectCall;
@@ -29,7 +29,7 @@ use crate::tokens::token_texts;
 use crate::tree_call::tell_query;
 use crate::tree_printing::print_form;
 use promql_formatter::FormatOptions;
-use promql_lines::mode::Mode;
+use promql_query::mode::Mode;
 use promql_run::format::Format;
 use promql_span::Span;
 use promql_span::limits::Limits;

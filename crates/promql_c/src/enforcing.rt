@@ -7,9 +7,9 @@ ghost use Rattle.promql_grammar.specs.Results.{on_result};
 ghost use Rattle.promql_c.specs.Calls.{IsEnforceOf};
 ghost use Rattle.promql_c.specs.CallSteps.{EnforcesBytes};
 
-use promql_lines::enforced_line::enforced_line;
-use promql_lines::query_error::QueryError;
-use promql_lines::query_tree::query_tree;
+use promql_query::enforced_line::enforced_line;
+use promql_query::query_error::QueryError;
+use promql_query::query_tree::query_tree;
 use promql_rewrite::MatcherError;
 use promql_span::limits::Limits;
 use std::alloc::Global;

@@ -2,15 +2,15 @@
 
 ghost use Rattle.std.specs.Prelude.{IfOk, string_bytes};
 ghost use Rattle.promql_grammar.specs.Results.{on_result};
-ghost use Rattle.promql_report.specs.Rejecting.{IsRejection};
+ghost use Rattle.promql_query.specs.Rejecting.{IsRejection};
 ghost use Rattle.promql_span.specs.declared.limits.Limits as spans;
-ghost use Rattle.promql_lines.specs.QueryErrors.{Gives};
+ghost use Rattle.promql_query.specs.QueryErrors.{Gives};
 ghost use Rattle.promql_c.specs.Calls.{Explains, IsExplainOf};
 
 use promql_ast::drop_expr;
-use promql_lines::query_error::QueryError;
-use promql_lines::rejected_query::RejectedQuery;
-use promql_report::rejection::{Rejection, read_query};
+use promql_query::query_error::QueryError;
+use promql_query::rejected_query::RejectedQuery;
+use promql_query::rejection::{Rejection, read_query};
 use promql_span::limits::Limits;
 use std::alloc::{AllocError, Global};
 

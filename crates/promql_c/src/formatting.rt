@@ -5,8 +5,8 @@ ghost use Rattle.promql_grammar.specs.Results.{on_result};
 ghost use Rattle.promql_c.specs.Calls.{IsFormattedOf};
 
 use promql_formatter::FormatOptions;
-use promql_lines::formatted_query::formatted_query;
-use promql_lines::query_error::QueryError;
+use promql_query::formatted_query::formatted_query;
+use promql_query::query_error::QueryError;
 use promql_span::limits::Limits;
 use std::alloc::Global;
 

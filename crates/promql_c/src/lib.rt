@@ -14,8 +14,8 @@ ghost use Rattle.promql_c.specs.FindingsText.{IsFindingsText};
 ghost use Rattle.promql_c.specs.Formats.{format_numbered, format_options, mode_numbered, named_numbered};
 ghost use Rattle.promql_c.specs.PartsText.{IsPartsText};
 ghost use Rattle.promql_c.specs.PlacesText.{IsPlacesText};
-ghost use Rattle.promql_lines.specs.WindowsText.{IsConstantText};
-ghost use Rattle.promql_lines.specs.declared.mode.Mode.TheVariants.{Plain};
+ghost use Rattle.promql_query.specs.WindowsText.{IsConstantText};
+ghost use Rattle.promql_query.specs.declared.mode.Mode.TheVariants.{Plain};
 ghost use Rattle.promql_c.specs.declared.calls.TheConstants.{CALLS_VERSION};
 
 pub use call_limits::CallLimits;

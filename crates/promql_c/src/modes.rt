@@ -3,7 +3,7 @@
 ghost use Rattle.std.specs.Prelude.{◌≡◌};
 ghost use Rattle.promql_c.specs.Formats.{format_numbered, mode_numbered};
 
-use promql_lines::mode::Mode;
+use promql_query::mode::Mode;
 use promql_run::format::{Format, Layout};
 
 /// The greatest level of a layout.

@@ -7,15 +7,15 @@ ghost use Rattle.serde_json.specs.Written.{compact_text};
 ghost use Rattle.promql_ast.specs.View.{tree_of};
 ghost use Rattle.promql_json.specs.JsonParts.{list};
 ghost use Rattle.promql_syntax.specs.ParseAnswers.{IsAnswerTo};
-ghost use Rattle.promql_lines.specs.QueryErrors.{Gives};
+ghost use Rattle.promql_query.specs.QueryErrors.{Gives};
 ghost use Rattle.promql_c.specs.PartsText.{IsPartsText, part_name, part_value, parts_value};
 ghost use Rattle.promql_c.specs.PlacesText.{IsPlacesText, span_value};
 
 use crate::tree_call::TreeCall;
 use promql_ast::Expr;
-use promql_lines::finite_json::value_text;
-use promql_lines::query_error::QueryError;
 use promql_places::{Part, PartKind, find_parts, find_places};
+use promql_query::finite_json::value_text;
+use promql_query::query_error::QueryError;
 use promql_span::Span;
 use promql_span::limits::Limits;
 use serde_json::{Value, json};

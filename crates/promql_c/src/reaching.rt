@@ -13,9 +13,9 @@ ghost use Rattle.promql_c.specs.ReachesText as spec;
 
 use crate::tree_call::TreeCall;
 use promql_ast::Expr;
-use promql_lines::finite_json::value_text;
-use promql_lines::query_error::QueryError;
-use promql_lines::windows_text::{error_of, selector_text};
+use promql_query::finite_json::value_text;
+use promql_query::query_error::QueryError;
+use promql_query::windows_text::{error_of, selector_text};
 use promql_span::limits::Limits;
 use promql_when::{SelectorReach, Times, reaches};
 use serde_json::{Value, json};

@@ -14,9 +14,9 @@ ghost use Rattle.promql_c.specs.SeriesText.{AreNoLabels};
 
 use crate::tree_call::{TreeCall, tell_query};
 use promql_ast::Expr;
-use promql_lines::finite_json::value_text;
-use promql_lines::labels_fault::LabelsFault;
-use promql_lines::query_error::QueryError;
+use promql_query::finite_json::value_text;
+use promql_query::labels_fault::LabelsFault;
+use promql_query::query_error::QueryError;
 use promql_span::limits::Limits;
 use promql_when::{SeriesLabel, may_read};
 use serde_json::{Category, Map, Value};

@@ -5,8 +5,8 @@ ghost use Rattle.promql_grammar.specs.Results.{on_result};
 ghost use Rattle.promql_c.specs.Calls.{IsRenameOf};
 ghost use Rattle.promql_c.specs.Formats.{named_numbered};
 
-use promql_lines::query_error::QueryError;
-use promql_lines::renamed_line::{Named, renamed_line};
+use promql_query::query_error::QueryError;
+use promql_query::renamed_line::{Named, renamed_line};
 use promql_span::limits::Limits;
 use std::alloc::Global;
 

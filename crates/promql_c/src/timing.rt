@@ -3,16 +3,16 @@
 ghost use Rattle.std.specs.Prelude.{string_bytes};
 ghost use Rattle.promql_grammar.specs.Results.{on_result};
 ghost use Rattle.promql_ast.specs.View.{tree_of};
-ghost use Rattle.promql_lines.specs.QueryErrors.{Gives};
-ghost use Rattle.promql_lines.specs.WindowsText.{GivesWindows, IsConstantText};
+ghost use Rattle.promql_query.specs.QueryErrors.{Gives};
+ghost use Rattle.promql_query.specs.WindowsText.{GivesWindows, IsConstantText};
 ghost use Rattle.promql_c.specs.Calls.{GivesLastRead, Pins};
 
 use crate::tree_call::TreeCall;
 use promql_ast::{Expr, drop_expr};
-use promql_lines::finite_json::value_text;
-use promql_lines::output::output_within;
-use promql_lines::query_error::QueryError;
-use promql_lines::windows_text::{error_of, last_text, windows_text};
+use promql_query::finite_json::value_text;
+use promql_query::output::output_within;
+use promql_query::query_error::QueryError;
+use promql_query::windows_text::{error_of, last_text, windows_text};
 use promql_span::limits::Limits;
 use promql_when::{PinError, Times, is_constant, last_read, pinned};
 use serde_json::Value;

@@ -6,14 +6,14 @@ ghost use Rattle.serde_json.specs.View.{view};
 ghost use Rattle.serde_json.specs.Written.{compact_text};
 ghost use Rattle.promql_grammar.specs.Results.{on_result};
 ghost use Rattle.promql_json.specs.JsonParts.{list};
-ghost use Rattle.promql_report.specs.Rejecting.{IsRejection};
+ghost use Rattle.promql_query.specs.Rejecting.{IsRejection};
 ghost use Rattle.promql_token.specs.declared.lexeme.Lexeme as lexemes;
 ghost use Rattle.promql_c.specs.Calls.{IsTokensOf};
 ghost use Rattle.promql_c.specs.TokensText as spec;
 
-use promql_lines::finite_json::value_text;
-use promql_lines::query_error::QueryError;
-use promql_report::rejection::{Reason, Rejection};
+use promql_query::finite_json::value_text;
+use promql_query::query_error::QueryError;
+use promql_query::rejection::{Reason, Rejection};
 use promql_span::limits::{LimitFault, Limits};
 use promql_span::{Location, end_of_text};
 use promql_token::ids::*;

@@ -6,20 +6,20 @@ ghost use Rattle.promql_text.specs.Texts.{Text};
 ghost use Rattle.promql_grammar.specs.Results.{on_result};
 ghost use Rattle.promql_ast.specs.Tree.{Tree};
 ghost use Rattle.promql_ast.specs.View.{tree_of};
-ghost use Rattle.promql_report.specs.Rejecting.{IsRead};
-ghost use Rattle.promql_lines.specs.QueryErrors.{OfTree};
+ghost use Rattle.promql_query.specs.Rejecting.{IsRead};
+ghost use Rattle.promql_query.specs.QueryErrors.{OfTree};
 ghost use Rattle.promql_c.specs.Calls.{OfTexts};
 
 use promql_ast::{Expr, drop_expr};
-use promql_lines::query_error::QueryError;
-use promql_lines::query_tree::query_tree;
+use promql_query::query_error::QueryError;
+use promql_query::query_tree::query_tree;
 use promql_span::limits::Limits;
 use std::alloc::Global;
 
 /// A call that tells something of a query's tree.
 pub(crate) trait TreeCall {
     ghost use Rattle.promql_span.specs.declared.limits.Limits as bounds;
-    ghost use Rattle.promql_lines.specs.declared.query_error.QueryError as errors;
+    ghost use Rattle.promql_query.specs.declared.query_error.QueryError as errors;
 
     ghost tells: { Self → bounds.Limits → Text → Tree → Result Text errors.QueryError → Type 0 };
 

@@ -3,12 +3,12 @@
 ghost use Rattle.std.specs.Prelude.{string_bytes};
 ghost use Rattle.promql_grammar.specs.Results.{on_result};
 ghost use Rattle.promql_c.specs.Calls.{IsTreePrintOf};
-ghost use Rattle.promql_lines.specs.QueryErrors.{IsOutput, Then};
-ghost use Rattle.promql_lines.specs.TreeTexts.{PrintsForm};
+ghost use Rattle.promql_query.specs.QueryErrors.{IsOutput, Then};
+ghost use Rattle.promql_query.specs.TreeTexts.{PrintsForm};
 
-use promql_lines::output::output_within;
-use promql_lines::query_error::QueryError;
-use promql_lines::tree_text::tree_text;
+use promql_query::output::output_within;
+use promql_query::query_error::QueryError;
+use promql_query::tree_text::tree_text;
 use promql_run::format::Format;
 use promql_span::limits::Limits;
 use std::alloc::Global;

@@ -8,7 +8,7 @@ use Rattle.promql_rewrite.specs.Faithful.{Means}
 use Rattle.promql_rewrite.specs.MatcherTexts.{IsMatcherText}
 use Rattle.promql_json.specs.declared.error.JsonError.{JsonError}
 use Rattle.promql_span.specs.declared.limits.Limits.{Limits}
-use Rattle.promql_lines.specs.EnforcedLines.{IsEnforcedLine}
+use Rattle.promql_query.specs.EnforcedLines.{IsEnforcedLine}
 
 pub line_is_enforced : (limits : Limits) (query matcher line : Text) → IsEnforcedLine limits query matcher (Ok line) → (c : PlainMatcher) × IsMatcherText matcher (Ok c) × IsEnforced query c line
 line_is_enforced limits query matcher line h =

@@ -29,7 +29,7 @@ ghost use Rattle.promql_when.specs.Pinned.{over, pinned};
 ghost use Rattle.promql_when.specs.Reads.{is_read, reads};
 ghost use Rattle.promql_when.specs.Windows.{IsAsked};
 ghost use Rattle.promql_when.specs.declared.times.Times.{Times};
-ghost use Rattle.promql_lines.specs.EnforcedLines.{IsEnforcedLine};
+ghost use Rattle.promql_query.specs.EnforcedLines.{IsEnforcedLine};
 ghost use Rattle.promql_run.specs.Running.{IsPrinted};
 ghost use Rattle.promql_run.specs.declared.format.Format.TheVariants.{Line, Pretty};
 ghost use Rattle.promql_span.specs.declared.limits.Limits.{Limits};

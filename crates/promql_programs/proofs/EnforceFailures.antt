@@ -2,8 +2,8 @@
 use Rattle.std.proofs.Common.{Err, inl, inr}
 use Rattle.promql_text.specs.Texts.{Text}
 use Rattle.promql_span.specs.declared.limits.Limits.{Limits}
-use Rattle.promql_lines.specs.EnforcedLines.{IsEnforcedLine}
-use Rattle.promql_lines.specs.declared.query_error.QueryError.TheVariants as error
+use Rattle.promql_query.specs.EnforcedLines.{IsEnforcedLine}
+use Rattle.promql_query.specs.declared.query_error.QueryError.TheVariants as error
 
 pub never_not_utf8 : (limits : Limits) (query matcher : Text) → ¬ IsEnforcedLine limits query matcher (Err error.NotUtf8)
 never_not_utf8 limits query matcher (inl (inl (r, is, rejected, untold))) = cc

@@ -2,8 +2,8 @@
 use Rattle.std.proofs.Common.{◌≡◌, ℕ, Bool, List, subst, sym}
 use Rattle.std.specs.Prelude.{Option, Err}
 use Rattle.promql_text.specs.Texts.{Text}
-use Rattle.promql_lines.specs.EnforcedLines.{IsEnforcedLine}
-use Rattle.promql_lines.specs.QueryErrors.{query_error_number}
+use Rattle.promql_query.specs.EnforcedLines.{IsEnforcedLine}
+use Rattle.promql_query.specs.QueryErrors.{query_error_number}
 use Rattle.promql_run.specs.Programs.{AnswersQuery}
 use Rattle.promql_run.specs.declared.ended.Ended.{Ended}
 use Rattle.promql_span.specs.declared.limits.Limits.{Limits}

@@ -1,7 +1,7 @@
 -- Why a query has no layout is never that a text is not valid UTF-8: the query is a text.
 use Rattle.std.proofs.Common.{Bool, Err, false, inl, inr, true}
 use Rattle.promql_text.specs.Texts.{Text}
-use Rattle.promql_lines.specs.declared.query_error.QueryError.TheVariants as error
+use Rattle.promql_query.specs.declared.query_error.QueryError.TheVariants as error
 use Rattle.promql_programs.specs.Layouts.{IsFormatAnswer, IsShown}
 use Rattle.promql_programs.specs.declared.format_settings.FormatSettings.{FormatSettings}
 

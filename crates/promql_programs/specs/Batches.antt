@@ -1,7 +1,7 @@
 -- What is written of many queries (docs/reference/programs.md, "Statuses of a batch").
 use Rattle.std.specs.Prelude.{◌≡◌, ◌⊎◌, ℕ, true, false, List, Option}
-use Rattle.promql_lines.specs.Batch.{AnswersBefore, AnswersLines, IsCutShort}
-use Rattle.promql_lines.specs.declared.settings.Settings.{Settings}
+use Rattle.promql_query.specs.Batch.{AnswersBefore, AnswersLines, IsCutShort}
+use Rattle.promql_query.specs.declared.settings.Settings.{Settings}
 use Rattle.promql_run.specs.Programs.{Reads}
 use Rattle.promql_run.specs.declared.ended.Ended.{Ended}
 use Rattle.promql_programs.specs.declared.batch_job.TheConstants.{ERRORS_STATUS}

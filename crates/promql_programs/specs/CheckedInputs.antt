@@ -1,8 +1,8 @@
 -- What a check found. Private: nothing rests on believing it.
 use Rattle.std.specs.Prelude.{◌≡◌, ◌⊎◌, ◌++◌, Bool, encode_utf8_all, string_bytes}
 use Rattle.std.specs.Str.{chars}
-use Rattle.promql_report.specs.Rejecting.{IsMessage}
-use Rattle.promql_report.specs.declared.rejection.Rejection.{Rejection}
+use Rattle.promql_query.specs.Rejecting.{IsMessage}
+use Rattle.promql_query.specs.declared.rejection.Rejection.{Rejection}
 use Rattle.promql_text.specs.Texts.{Text}
 use Rattle.promql_run.specs.Colors.{painted}
 use Rattle.promql_run.specs.declared.colors.TheConstants.{MAGENTA}

@@ -8,8 +8,8 @@ use Rattle.promql_span.specs.Locations.{location_of}
 use Rattle.promql_span.specs.Visible.{visible}
 use Rattle.promql_span.specs.declared.span.Span.{Span}
 use Rattle.promql_span.specs.declared.limits.Limits.{Limits}
-use Rattle.promql_report.specs.Rejecting.{IsMessage, IsParsed, IsRejection, reason_number}
-use Rattle.promql_report.specs.declared.rejection.Rejection.{Rejection}
+use Rattle.promql_query.specs.Rejecting.{IsMessage, IsParsed, IsRejection, reason_number}
+use Rattle.promql_query.specs.declared.rejection.Rejection.{Rejection}
 use Rattle.promql_run.specs.Colors.{painted}
 use Rattle.promql_run.specs.Inputs.{IsInput}
 use Rattle.promql_run.specs.Programs.{Reads}

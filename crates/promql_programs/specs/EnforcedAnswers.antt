@@ -1,7 +1,7 @@
 -- What is written of a query that is enforced (docs/reference/programs.md, "One query, enforced").
 use Rattle.std.specs.Prelude.{◌≡◌, ◌++◌, Ok, codes}
 use Rattle.promql_text.specs.Texts.{Text}
-use Rattle.promql_lines.specs.EnforcedLines.{IsEnforcedLine}
+use Rattle.promql_query.specs.EnforcedLines.{IsEnforcedLine}
 use Rattle.promql_span.specs.declared.limits.Limits.{Limits}
 
 -- the line and a line feed

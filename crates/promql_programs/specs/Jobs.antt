@@ -3,8 +3,8 @@ use Rattle.std.specs.Prelude.{◌≡◌, ℕ, Bool, true, bytes_eq, codes, List,
 use Rattle.std.specs.Option.{option_or}
 use Rattle.std.specs.Map.{lookup}
 use Rattle.promql_text.specs.Texts.{Text}
-use Rattle.promql_lines.specs.EnforcedLines.{IsEnforcedLine}
-use Rattle.promql_lines.specs.QueryErrors.{query_error_number}
+use Rattle.promql_query.specs.EnforcedLines.{IsEnforcedLine}
+use Rattle.promql_query.specs.QueryErrors.{query_error_number}
 use Rattle.promql_run.specs.Programs.{AnswersQuery}
 use Rattle.promql_run.specs.Running.{IsPrinted, format_named}
 use Rattle.promql_run.specs.declared.ended.Ended.{Ended}

@@ -1,10 +1,10 @@
 -- What is written of a query that is formatted (docs/reference/programs.md, "One query, formatted").
 use Rattle.std.specs.Prelude.{◌≡◌, ◌⊎◌, ◌==◌, ◌&&◌, Bool, true, false, ◌++◌, [], ◌∷◌, if◌then◌else◌, Result, Ok, Err, codes}
 use Rattle.promql_text.specs.Texts.{Text}
-use Rattle.promql_lines.specs.FormattedQueries.{IsFormattedQuery}
-use Rattle.promql_lines.specs.QueryErrors.{Then}
-use Rattle.promql_lines.specs.declared.query_error.QueryError.{QueryError}
-use Rattle.promql_lines.specs.declared.query_error.QueryError.TheVariants as error
+use Rattle.promql_query.specs.FormattedQueries.{IsFormattedQuery}
+use Rattle.promql_query.specs.QueryErrors.{Then}
+use Rattle.promql_query.specs.declared.query_error.QueryError.{QueryError}
+use Rattle.promql_query.specs.declared.query_error.QueryError.TheVariants as error
 use Rattle.promql_programs.specs.declared.format_settings.FormatSettings.{FormatSettings}
 
 abbrev pub begins_with_feed : Text → Bool

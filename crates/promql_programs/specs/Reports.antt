@@ -4,7 +4,7 @@ use Rattle.promql_text.specs.Texts.{Text}
 use Rattle.promql_span.specs.Locations.{location_text}
 use Rattle.promql_span.specs.declared.location.Location.{Location}
 use Rattle.promql_span.specs.declared.span.Span.{Span}
-use Rattle.promql_report.specs.Rejecting.{marked_line}
+use Rattle.promql_query.specs.Rejecting.{marked_line}
 use Rattle.promql_run.specs.Colors.{marked, painted}
 use Rattle.promql_run.specs.declared.colors.TheConstants.{BOLD, GREEN}
 

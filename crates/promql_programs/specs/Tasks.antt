@@ -4,8 +4,8 @@ use Rattle.std.specs.Io.KnownBytes.{Appends}
 use Rattle.promql_text.specs.Texts.{Text}
 use Rattle.promql_ast.specs.Tree.{Tree}
 use Rattle.promql_json.specs.declared.error.JsonError.TheVariants.{NumberTooWide}
-use Rattle.promql_report.specs.Rejecting.{marked_line}
-use Rattle.promql_report.specs.declared.rejection.Reason.TheVariants.{Parse}
+use Rattle.promql_query.specs.Rejecting.{marked_line}
+use Rattle.promql_query.specs.declared.rejection.Reason.TheVariants.{Parse}
 use Rattle.promql_run.specs.Running.{HasFormatText, format_text}
 use Rattle.promql_run.specs.declared.ended.Ended.{Ended}
 use Rattle.promql_run.specs.declared.format.Format.{Format}
@@ -16,8 +16,8 @@ use Rattle.promql_span.specs.declared.target.Target.{Target}
 use Rattle.promql_target.specs.Refusals.{first_refusal}
 use Rattle.promql_syntax.specs.ParseAnswers.{IsAnswerTo, plain_error_of}
 use Rattle.promql_syntax.specs.declared.parser.ParseError.{ParseError}
-use Rattle.promql_lines.specs.declared.query_error.QueryError.{QueryError}
-use Rattle.promql_lines.specs.declared.query_error.QueryError.TheVariants as error
+use Rattle.promql_query.specs.declared.query_error.QueryError.{QueryError}
+use Rattle.promql_query.specs.declared.query_error.QueryError.TheVariants as error
 use Rattle.promql_programs.specs.Sources.{IsTextIn}
 use Rattle.promql_programs.specs.declared.reports.TheConstants.{WARNING}
 

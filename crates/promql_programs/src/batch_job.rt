@@ -1,13 +1,13 @@
 //! Many queries of an input, a line each: docs/reference/programs.md, "Many queries".
 
 ghost use Rattle.std.specs.Prelude.{◌≡◌, ◌⊎◌, false, true};
-ghost use Rattle.promql_lines.specs.Batch.{AnswersBefore, AnswersLines, IsCutShort};
+ghost use Rattle.promql_query.specs.Batch.{AnswersBefore, AnswersLines, IsCutShort};
 ghost use Rattle.promql_run.specs.Programs.{Reads};
 
 use crate::reports::say;
 use crate::source::Source;
-use promql_lines::batch::run_batch;
-use promql_lines::settings::Settings;
+use promql_query::batch::run_batch;
+use promql_query::settings::Settings;
 use promql_run::ahead::ReadsAhead;
 use promql_run::ended::Ended;
 use std::alloc::Global;

@@ -18,7 +18,7 @@ use crate::check_settings::CheckSettings;
 use crate::reports::{WARNING, report, report_rejection, say};
 use crate::source::Source;
 use promql_ast::drop_expr;
-use promql_report::rejection::read_query;
+use promql_query::rejection::read_query;
 use promql_run::colors::{MAGENTA, push_painted};
 use promql_run::ended::Ended;
 use promql_run::run::{RunError, read_text};

@@ -1,13 +1,13 @@
 //! A query with a matcher in every selector: docs/reference/programs.md, "One query, enforced".
 
 ghost use Rattle.std.specs.Prelude.{Err, IfErr, IfOk, string_bytes};
-ghost use Rattle.promql_lines.specs.EnforcedLines.{IsEnforcedLine};
+ghost use Rattle.promql_query.specs.EnforcedLines.{IsEnforcedLine};
 ghost use Rattle.promql_programs.specs.EnforcedAnswers.{IsEnforcedAnswer};
 
 use crate::task::Task;
-use promql_lines::enforced_line::enforced_line;
-use promql_lines::matcher_reason::matcher_report;
-use promql_lines::query_error::QueryError;
+use promql_query::enforced_line::enforced_line;
+use promql_query::matcher_reason::matcher_report;
+use promql_query::query_error::QueryError;
 use promql_rewrite::MatcherError;
 use promql_span::Target;
 use promql_span::limits::Limits;
@@ -24,7 +24,7 @@ pub struct Enforce<'a> {
 
 impl<'a> Task for Enforce<'a> {
     ghost use Rattle.std.specs.Prelude.{Err};
-    ghost use Rattle.promql_lines.specs.EnforcedLines.{IsEnforcedLine};
+    ghost use Rattle.promql_query.specs.EnforcedLines.{IsEnforcedLine};
     ghost use Rattle.promql_programs.specs.EnforcedAnswers.{IsEnforcedAnswer};
 
     ghost makes = { λ task. IsEnforcedAnswer task.limits task.matcher.now };

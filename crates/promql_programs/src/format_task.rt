@@ -3,7 +3,7 @@
 use crate::format_settings::FormatSettings;
 use crate::query_layout::query_layout;
 use crate::task::Task;
-use promql_lines::query_error::QueryError;
+use promql_query::query_error::QueryError;
 use promql_span::Target;
 use std::alloc::Global;
 

@@ -18,7 +18,7 @@ use crate::usage::{
     BATCH_HELP, BATCH_USAGE, CHECK_HELP, CHECK_USAGE, ENFORCE_HELP, ENFORCE_USAGE, FORMAT_HELP,
     FORMAT_USAGE, PRINT_HELP, PRINT_USAGE,
 };
-use promql_lines::settings::Settings;
+use promql_query::settings::Settings;
 use promql_run::ahead::ReadsAhead;
 use promql_run::ended::Ended;
 use promql_run::format::Format;

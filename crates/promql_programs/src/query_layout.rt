@@ -4,8 +4,8 @@ ghost use Rattle.std.specs.Prelude.{◌≡◌, Err, IfErr, IfOk, Ok, string_byte
 ghost use Rattle.promql_programs.specs.Layouts.{IsFormatAnswer, begins_with_feed, with_feeds};
 
 use crate::format_settings::FormatSettings;
-use promql_lines::formatted_query::formatted_query;
-use promql_lines::query_error::QueryError;
+use promql_query::formatted_query::formatted_query;
+use promql_query::query_error::QueryError;
 use std::alloc::{AllocError, Global};
 
 /// What is written of a query: its layout and a line feed, or nothing where it is only compared.

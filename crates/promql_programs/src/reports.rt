@@ -11,8 +11,8 @@ ghost use Rattle.promql_programs.specs.Warnings.{IsWarning};
 
 use crate::check::query_in;
 use crate::source::Source;
-use promql_lines::query_error::QueryError;
-use promql_report::rejection::{Reason, Rejection};
+use promql_query::query_error::QueryError;
+use promql_query::rejection::{Reason, Rejection};
 use promql_run::colors::{BOLD, GREEN, push_marked, push_painted};
 use promql_run::ended::Ended;
 use promql_run::writing::write_text;

@@ -1,6 +1,6 @@
 use Rattle.std.proofs.Common.{Some, ap, subst, ◌∙◌}
 use Rattle.promql_run.specs.declared.format.Format.TheVariants.{Line}
-use Rattle.promql_lines.specs.declared.mode.Mode.TheVariants.{Plain}
+use Rattle.promql_query.specs.declared.mode.Mode.TheVariants.{Plain}
 use Rattle.promql_span.specs.Targets.{for_rules}
 use Rattle.promql_c.specs.CallResults.{ShowsSome}
 use Rattle.promql_c.specs.Calls.{IsPrintOf}

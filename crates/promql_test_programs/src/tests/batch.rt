@@ -2,10 +2,10 @@
 
 use super::streams::{FlakyReader, FlakyWriter};
 use super::{NoFiles, check_value, is_so, texts};
-use promql_lines::batch::run_batch;
-use promql_lines::settings::Settings;
 use promql_programs::program::program;
 use promql_programs::usage::BATCH_HELP;
+use promql_query::batch::run_batch;
+use promql_query::settings::Settings;
 use promql_run::ended::Ended;
 use promql_run::format::Format;
 use promql_run::run::RunError;

@@ -1,8 +1,8 @@
 //! Lines that a long matcher would make too long.
 
 use super::is_so;
-use promql_lines::enforced_line::enforced_line;
-use promql_lines::query_error::{Measured, QueryError};
+use promql_query::enforced_line::enforced_line;
+use promql_query::query_error::{Measured, QueryError};
 use promql_span::limits::{LimitFault, Limits};
 use std::alloc::{AllocError, Global};
 

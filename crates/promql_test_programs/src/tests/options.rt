@@ -1,9 +1,9 @@
 //! Widths, precisions and flags of a placeholder, which no error of a run or of a line heeds.
 
 use super::is_so;
-use promql_lines::query_error::{Measured, QueryError};
-use promql_lines::request_fault::RequestFault;
 use promql_parser::parser::ParseError;
+use promql_query::query_error::{Measured, QueryError};
+use promql_query::request_fault::RequestFault;
 use promql_run::run::RunError;
 use promql_span::limits::LimitFault;
 use std::alloc::{AllocError, Global};

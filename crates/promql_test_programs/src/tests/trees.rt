@@ -1,9 +1,9 @@
 //! The texts of trees that are given as JSON, and why some have none.
 
 use super::prints;
-use promql_lines::query_error::QueryError;
-use promql_lines::read_form::MAX_TREE;
-use promql_lines::tree_text::tree_text;
+use promql_query::query_error::QueryError;
+use promql_query::read_form::MAX_TREE;
+use promql_query::tree_text::tree_text;
 use promql_run::format::{Format, Layout};
 use promql_span::limits::Limits;
 use promql_span::{Printed, Target};

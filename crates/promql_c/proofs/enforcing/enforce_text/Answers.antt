@@ -1,6 +1,6 @@
 use Rattle.std.proofs.Common.{inl, string_bytes, subst}
 use Rattle.promql_grammar.specs.Results.{on_result}
-use Rattle.promql_lines.specs.EnforcedLines.{IsEnforcedLine}
+use Rattle.promql_query.specs.EnforcedLines.{IsEnforcedLine}
 use Rattle.promql_c.proofs.MadeTexts.{made}
 use Rattle.promql_c.proofs.enforcing.enforce_text.Goals as goal
 

@@ -1,6 +1,6 @@
 use Rattle.std.proofs.Common.{inr, refl, string_bytes, subst, sym}
 use Rattle.std.proofs.lemmas.Result.{IfOk-weaker}
-use Rattle.promql_report.specs.Rejecting.{IsMessage, IsRejection}
+use Rattle.promql_query.specs.Rejecting.{IsMessage, IsRejection}
 use Rattle.promql_c.specs.Calls.{Explains}
 use Rattle.promql_c.proofs.explaining.explanation.Goals as goal
 

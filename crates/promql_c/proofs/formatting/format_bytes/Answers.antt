@@ -1,6 +1,6 @@
 use Rattle.std.proofs.Common.{inl, string_bytes, subst}
 use Rattle.promql_grammar.specs.Results.{on_result}
-use Rattle.promql_lines.specs.FormattedQueries.{IsFormattedQuery}
+use Rattle.promql_query.specs.FormattedQueries.{IsFormattedQuery}
 use Rattle.promql_c.proofs.MadeTexts.{made}
 use Rattle.promql_c.proofs.formatting.format_bytes.Goals as goal
 

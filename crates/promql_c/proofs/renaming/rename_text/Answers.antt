@@ -1,5 +1,5 @@
 use Rattle.std.proofs.Common.{inl}
-use Rattle.promql_lines.specs.RenamedLines.{IsRenamedLine, renaming}
+use Rattle.promql_query.specs.RenamedLines.{IsRenamedLine, renaming}
 use Rattle.promql_c.proofs.MadeTexts.{made}
 use Rattle.promql_c.proofs.renaming.rename_text.Goals as goal
 

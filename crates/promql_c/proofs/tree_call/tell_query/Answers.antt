@@ -1,6 +1,6 @@
 use Rattle.std.proofs.Common.{inl, string_bytes, subst}
 use Rattle.promql_grammar.specs.Results.{on_result}
-use Rattle.promql_lines.specs.QueryErrors.{OfTree}
+use Rattle.promql_query.specs.QueryErrors.{OfTree}
 use Rattle.promql_c.proofs.tree_call.tell_query.Goals as goal
 
 pub returns : goal.returns

@@ -1,8 +1,8 @@
 use Rattle.std.proofs.Common.{◌≡◌, None, string_bytes}
 use Rattle.promql_grammar.specs.Results.{on_result}
 use Rattle.promql_ast.specs.View.{tree_of}
-use Rattle.promql_lines.proofs.Steps.{then_made}
-use Rattle.promql_lines.specs.QueryErrors.{ReadsQuery}
+use Rattle.promql_query.proofs.Steps.{then_made}
+use Rattle.promql_query.specs.QueryErrors.{ReadsQuery}
 use Rattle.promql_c.proofs.tree_call.tell_text.Goals as goal
 
 pub returns : goal.returns

@@ -1,7 +1,7 @@
 use Rattle.std.proofs.Common.{inl, string_bytes, subst, sym}
 use Rattle.promql_grammar.specs.Results.{on_result}
-use Rattle.promql_lines.specs.QueryErrors.{IsOutput, Then}
-use Rattle.promql_lines.specs.TreeTexts.{PrintsForm}
+use Rattle.promql_query.specs.QueryErrors.{IsOutput, Then}
+use Rattle.promql_query.specs.TreeTexts.{PrintsForm}
 use Rattle.promql_c.specs.Calls.{IsTreePrintOf}
 use Rattle.promql_c.proofs.tree_printing.print_form.Goals as goal
 

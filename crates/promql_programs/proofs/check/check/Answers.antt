@@ -2,7 +2,7 @@ use Rattle.std.proofs.Common.{inr, sym, ◌∙◌, subst, ⊎_elim}
 use Rattle.promql_run.specs.StepErrors.{IsInputError}
 use Rattle.promql_run.proofs.Statuses.{four_is_parse, none_is_zero}
 use Rattle.promql_programs.proofs.CheckAnswers.{warned, written_unless_failed}
-use Rattle.promql_report.proofs.LimitStatus.{not_fourteen, not_twenty_four, not_twenty_three}
+use Rattle.promql_query.proofs.LimitStatus.{not_fourteen, not_twenty_four, not_twenty_three}
 use Rattle.promql_programs.proofs.check.check.Goals as goal
 
 pub returns-in-Ok-Warned-clause-accepted : goal.returns-in-Ok-Warned-clause-accepted

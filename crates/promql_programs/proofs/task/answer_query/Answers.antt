@@ -1,6 +1,6 @@
 use Rattle.std.proofs.Common.{◌∙◌, ⊎_elim, inl, inr, option_map, refl, string_bytes, subst, sym}
 use Rattle.promql_run.specs.Inputs.{HasRead}
-use Rattle.promql_lines.proofs.QueryStatuses.{not_status, not_written, three_is_not_utf8}
+use Rattle.promql_query.proofs.QueryStatuses.{not_status, not_written, three_is_not_utf8}
 use Rattle.promql_programs.specs.Tasks.{IsInputAnswer}
 use Rattle.promql_programs.specs.Warnings.{IsWarning}
 use Rattle.promql_programs.proofs.WarnedAnswers.{warned}

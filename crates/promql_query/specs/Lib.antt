@@ -1,0 +1,17 @@
+pub mod Batch
+pub mod BatchSteps
+pub mod EnforceSteps
+pub mod EnforcedLines
+pub mod FormattedQueries
+pub mod LinesWithin
+pub mod QueryErrors
+pub mod Rejecting
+pub mod RenamedLines
+pub mod Requests
+pub mod SelectorPlaces
+pub mod TreeTexts
+pub mod Telling
+pub mod TimesSteps
+pub mod TimesText
+pub mod WalkedPlaces
+pub mod WindowsText
