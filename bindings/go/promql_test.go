@@ -413,7 +413,7 @@ func TestLargePatternsOfTrees(t *testing.T) {
 }
 
 func TestVersion(t *testing.T) {
-	if got := promql.Version(); got != "0.8.0" {
+	if got := promql.Version(); got != "0.9.0" {
 		t.Error(got)
 	}
 }
