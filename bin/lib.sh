@@ -178,13 +178,18 @@ library_fingerprint() {
 extension_fingerprint() {
     (
         cd "$root" || exit
-        sha256sum bindings/python/promql/_native{,_nodes,_read,_write}.c bindings/python/promql/_native.h bindings/c/promql.h
+        sha256sum bindings/python/promql/_native{,_nodes,_read,_write,_yaml}.c bindings/python/promql/_native.h bindings/c/promql.h
     ) | sha256sum | cut -d' ' -f1
 }
 
 # The folder of the headers of Python: PYTHON names another one than python3.
 python_headers() {
     "${PYTHON:-python3}" -c 'import sysconfig; print(sysconfig.get_path("include"))'
+}
+
+# The header of libyaml, whose structs the extension for Python reads.
+yaml_header() {
+    echo /usr/include/yaml.h
 }
 
 # What the extension is made with here, which decides its bytes: the C compilers, and the version of Python's headers.

@@ -129,6 +129,7 @@ install_missing() {
     python_with_schemas >/dev/null || missing+=(python3-jsonschema)
     python_with_pip >/dev/null || missing+=(python3-pip python3-venv)
     [ -f "$(python_headers)/Python.h" ] || missing+=(python3-dev)
+    [ -f "$(yaml_header)" ] || missing+=(libyaml-dev)
     has_libyaml "$(python_with_yaml || echo /usr/bin/python3)" || missing+=(python3-yaml)
     python3 -c 'import pytest' 2>/dev/null || missing+=(python3-pytest)
     python3 -c 'import mypy' 2>/dev/null || missing+=(mypy)

@@ -69,13 +69,15 @@ write_python() {
 # The sanitizers do not see what Python itself reads, such as an object that the extension gave back too often; valgrind does. What it
 # says of values without a beginning is about Python.
 test_extension() {
-    local stale
+    local stale header
     stale=$(why_extension_stale)
     if [ -n "$stale" ]; then echo "######## The extension for Python: $stale. bin/release makes it anew."; fi
-    if ! [ -f "$(python_headers)/Python.h" ]; then
-        echo "not tried: building the extension for Python: there is no $(python_headers)/Python.h"
-        return
-    fi
+    for header in "$(python_headers)/Python.h" "$(yaml_header)"; do
+        if ! [ -f "$header" ]; then
+            echo "not tried: building the extension for Python: there is no $header"
+            return
+        fi
+    done
     try 'the extension for Python is what its source builds to' extension_agrees
     if has_sanitizers 'the extension for Python with sanitizers'; then
         try 'building the extension for Python with sanitizers' build_sanitized_extension
@@ -150,4 +152,4 @@ test_wheel() {
 
 export -f install_wheel installs imports_all extension_agrees build_sanitized_extension
 # What these call of bin/lib.sh.
-export -f extension_tools python_headers why_extension_stale why_other extension_fingerprint is_listed file_sum processor_names compiler_for tools_for
+export -f extension_tools python_headers yaml_header why_extension_stale why_other extension_fingerprint is_listed file_sum processor_names compiler_for tools_for

@@ -773,6 +773,20 @@ static PyObject *canonical_many(PyObject *module, PyObject *queries)
     return made;
 }
 
+/* ---- YAML */
+
+/* The events of a text (read_events), of so many nodes and levels at most. */
+static PyObject *yaml_events(PyObject *Py_UNUSED(module), PyObject *arguments)
+{
+    PyObject *text, *encoded, *made;
+    Py_ssize_t most, levels;
+    if (!PyArg_ParseTuple(arguments, "Onn", &text, &most, &levels) || (encoded = encode(text)) == NULL)
+        return NULL;
+    made = read_events(PyBytes_AsString(encoded), (size_t)PyBytes_Size(encoded), most, levels);
+    Py_DecRef(encoded);
+    return made;
+}
+
 /* ---- the module */
 
 /* Finds a call of the library. Returns 0, or -1 with an error. */
@@ -878,6 +892,7 @@ static PyMethodDef methods[] = {
     {"tokens", tokens, METH_O, NULL},
     {"version", version, METH_NOARGS, NULL},
     {"windows", windows, METH_VARARGS, NULL},
+    {"yaml_events", yaml_events, METH_VARARGS, NULL},
     {NULL, NULL, 0, NULL},
 };
 

@@ -1,5 +1,5 @@
 /* What the files of the extension share: the classes of the nodes of promql.tree, what reads them of the library's JSON text, and what
- * writes that text of them. */
+ * writes that text of them; and what reads YAML. */
 #define Py_LIMITED_API 0x03080000
 #define PY_SSIZE_T_CLEAN
 #include <Python.h>
@@ -58,3 +58,11 @@ void leave_text(struct text *text);
  * -1 without one where it is not written: it is longer, deeper than the library reads, or not of these classes with fields of their types.
  * _printing.py then writes it, and tells what is wrong. */
 int write_form(const struct nodes *nodes, PyObject *tree, size_t most, struct text *text);
+
+/* The events of a YAML text in UTF-8, as libyaml tells them, in a list of tuples, or None where there is no libyaml; NULL with an error where
+ * there is no memory. The list ends with the first node beyond so many, or the first list or mapping within so many, or with what is wrong.
+ *
+ * Each tuple has the kind, "scalar", "mapping", "sequence", "alias", "end", "document" or "error"; the text of a scalar, or the problem; a
+ * quote, `|` or `>`, or `{` for a collection in braces or brackets; the anchor, or that which an alias names; the tag; and where it begins and
+ * ends, and the column of its begin, all in characters. What there is none of is an empty str or 0. An end has no place. */
+PyObject *read_events(const char *text, size_t length, Py_ssize_t most, Py_ssize_t levels);

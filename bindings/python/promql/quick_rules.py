@@ -9,8 +9,9 @@ import re
 from typing import Any, Dict, Set
 
 from .checked_queries import Budget, Document, QueryChecker
-from .files import BLANKS, Source, counted, look_for_reader, surely
+from .files import BLANKS, NO_TEXTS, Source, Unclear, counted, look_for_reader, surely
 from .token_texts import is_logql
+from .yaml_events import Event, events_of
 
 LABEL = re.compile(r"[a-zA-Z_][a-zA-Z0-9_]*")
 METRIC = re.compile(r"[a-zA-Z_:][a-zA-Z0-9_:]*")
@@ -39,9 +40,7 @@ class RulesInOrder(Document):
         surely("expr" in source.text and "\t" not in source.text)
         self._templates = Budget(MOST_IN_TEMPLATES)
         self._rules: Set[Any] = set()
-        # (PyYAML is imported where a file may be one of rules)
-        from .quick_yaml import ShapedYaml
-        self._look_at_groups(ShapedYaml(source.text, checker.nodes_left, _FILE).root)
+        self._look_at_groups(ShapedYaml(source.text, checker.nodes_left).root)
         self.rule_count = len(self._rules)
 
     def summary(self) -> str:
@@ -73,6 +72,57 @@ class RulesInOrder(Document):
         from .go_templates import fault_of, size_of
         size = size_of(template)
         return size > 0 and (not self._templates.takes(size) or bool(fault_of(template)))
+
+
+class ShapedYaml:
+    """What a text says that has the shape of a rule file, without anchors and tags. Raises Unclear where that is not sure."""
+
+    def __init__(self, text: str, most_nodes: int) -> None:
+        self._text, self._events = text, events_of(text, most_nodes)
+        try:
+            # (a document begins, and there is no other one)
+            next(self._events)
+            self.root = self._read(next(self._events), _FILE)
+            surely(next(self._events, None) is None)
+        # (beyond the bound the events end before the lists and mappings do)
+        except StopIteration as error:
+            raise Unclear from error
+
+    def _read(self, event: Event, shape: Any) -> Any:
+        """What begins with an event that is to be a list or a mapping."""
+        surely(not event[3] and not event[4])
+        if event[0] == "mapping" and type(shape) is dict:
+            return self._read_mapping(shape)
+        surely(event[0] == "sequence" and type(shape) is list)
+        items = []
+        while (item := next(self._events))[0] != "end":
+            items.append(self._read(item, shape[0]))
+        return items
+
+    def _read_mapping(self, shape: Dict[str, Any]) -> Dict[str, Any]:
+        # (most of the time is spent here, so little is called for each key)
+        found: Dict[str, Any] = {}
+        events, unknown = self._events, False if shape else None
+        for kind, name, _, anchor, tag, _, key_end, _ in events:
+            if kind == "end":
+                surely(shape or "__name__" not in found and all(map(LABEL.fullmatch, found)))
+                return found
+            if kind != "scalar" or name in found or anchor or tag:
+                raise Unclear
+            kind, value, style, anchor, tag, start, end, _ = event = next(events)
+            if (wanted := shape.get(name, unknown)) is not None:
+                found[name] = self._read(event, wanted)
+                continue
+            if kind != "scalar" or anchor or tag or not style and value in NO_TEXTS:
+                raise Unclear
+            found[name] = value
+            if name == "expr" and shape:
+                surely(self._text[key_end] == ":")
+                # (each character of a query has a place, which is the same one in most files)
+                if "\n" in value or self._text[start + len(style) : end - len(style)] != value:
+                    from .scalars import Scalar
+                    surely(Scalar(self._text, start, end, start, style, False, 0).offsets(value) is not None)
+        raise Unclear
 
 
 def is_duration(text: str) -> bool:

@@ -1,31 +1,20 @@
-"""YAML by libyaml: some ten times quicker than `exact_yaml`, for texts that both are known to read alike.
-
-The reader is the C code that PyYAML calls, and is asked for events alone: it makes no nodes, so nothing recurses. What is unusual in a
-text, or wrong, is left to `exact_yaml`, which then says what there is to say.
-"""
+"""YAML by libyaml: some ten times quicker than `exact_yaml`, for texts that both are known to read alike. Its events make the nodes here, so
+nothing recurses. What is unusual in a text, or wrong, is left to `exact_yaml`, which then says what there is to say."""
 
 from __future__ import annotations
 
-import importlib
 import re
 from bisect import bisect_right
-from contextlib import suppress
 from functools import lru_cache
-from typing import Any, Dict, List, Match, Tuple
+from typing import Any, Dict, Iterable, List, Match, Tuple
 
 from .checked_queries import FileBounds
-from .files import NO_TEXTS, BoundError, Source, Unclear, is_usual, surely
-from .quick_rules import LABEL
-from .scalars import Node, Scalar, Token
+from .files import BoundError, Source, Unclear, surely
+from .scalars import Node, Token
+from .yaml_events import MOST_LEVELS, Event, events_of
 
-# What libyaml, which reads YAML 1.1, may take otherwise: the line ends of Unicode, and what is not printed; directives, ends of documents,
-# and a comment at once after the sign of a block.
-_UNUSUAL = "(?m)[\0-\b\v\f\x0e-\x1f\x7f-\x9f\u2028\u2029\ud800-\udfff\ufeff\ufffe\uffff]" r"|(?:^|\r)(?:%|\.\.\.)|[|>][-+0-9]*#"
-# Where a text may begin with a directive: it says what is so without it.
-_DIRECTIVE = r"%YAML 1\.2 *(?:\n|\r\n?)(?=--- *[\n\r])"
 # Tags with a meaning for these tools, by which both readers call a value. Most have no effect.
 _TAGS = frozenset(f"tag:yaml.org,2002:{name}" for name in "str int float bool timestamp null seq map".split())
-_MOST_LEVELS = 100
 # An anchor or a tag, and what may be after it.
 _PROPERTY = re.compile(r"(?:&[\w-]+|!![a-z]+)(?:[ \r\n]+|$)", re.ASCII)
 _AFTER_NAMES = ("", " ", "\n", "\r", ",", "]", "}")
@@ -36,12 +25,18 @@ class QuickYaml:
     """A text as libyaml reads it, where nothing in it is unusual."""
 
     def __init__(self, source: Source, most_nodes: int = FileBounds().max_file_nodes) -> None:
-        reader, self._text = _reader_of(source.text), source.text
-        composer = _Composer(source, most_nodes)
-        self.roots = composer.documents(reader)
-        self.has_aliases = composer.has_aliases
-        self.nodes_left = composer.nodes_left
-        if "\t" in source.text and not _are_clear_tabs(source.text, composer.scalars):
+        self._source, self._text = source, source.text
+        self._most = self.nodes_left = most_nodes
+        self.roots: List[Node] = []
+        self.has_aliases = False
+        self._anchors: Dict[str, Node] = {}
+        # The nodes of the collections that are not at their end yet, the outermost ones first, and the collections.
+        self._items: List[List[Node]] = [self.roots]
+        self._open: List[Node] = []
+        self._flows = 0
+        self._scalars: List[_Span] = []
+        self._read(events_of(source.text, most_nodes))
+        if "\t" in source.text and not _are_clear_tabs(source.text, self._scalars):
             raise Unclear(source.text.index("\t"))
 
     def refuse(self) -> None:
@@ -63,30 +58,65 @@ class QuickYaml:
         surely(self._text[start : start + 1] not in ("#", "&", "!"))
         return Token(start, before, value.in_flow)
 
+    def _read(self, events: Iterable[Event]) -> None:
+        steps: Dict[str, Any] = {"scalar": self._add_scalar, "alias": self._add_alias, "document": lambda event: self._anchors.clear()}
+        steps.update(mapping=self._begin, sequence=self._begin, end=self._end)
+        for event in events:
+            if event[0] == "error":
+                # (an error of YAML, of any kind, is told by the other reader)
+                raise Unclear(event[5], f"not YAML to libyaml: {event[1]}")
+            steps[event[0]](event)
+
+    def _add_scalar(self, event: Event) -> None:
+        _, value, style, _, _, start, end, _ = event
+        # (`=` is a value of its own in YAML 1.1; a block that is the whole document ends elsewhere)
+        surely(style not in ("|", ">") or self._open if style else value != "=")
+        self._add(event)
+        self._scalars.append((start, end, style))
+
+    def _add(self, event: Event) -> Node:
+        kind, value, style, anchor, tag, start, end, column = event
+        if tag and tag not in _TAGS:
+            raise Unclear(start)
+        node = Node(kind, value, tag, style, anchor, start, end, column, self._flows > 0)
+        self._put(node, start)
+        if anchor:
+            # (there is a tag before it where it is not here)
+            surely(self._text[start] == "&")
+            self._look_after(start + 1 + len(anchor))
+            self._anchors[anchor] = node
+        return node
+
+    def _put(self, node: Node, at: int) -> None:
+        self.nodes_left -= 1
+        if self.nodes_left < 0:
+            message = f"the file has more than {self._most:,} nodes of YAML, up to here (--max-file-nodes)"
+            raise BoundError.of(self._source, at, message)
+        self._items[-1].append(node)
+
+    def _look_after(self, end: int) -> None:
+        """Looks whether a name ends here, which may have more characters to others than to libyaml."""
+        surely(self._text[end : end + 1] in _AFTER_NAMES)
+
+    def _begin(self, event: Event) -> None:
+        surely(len(self._open) < MOST_LEVELS)
+        self._open.append(self._add(event))
+        self._flows += bool(event[2])
+        self._items.append([])
+
+    def _end(self, event: Event) -> None:
+        node, items = self._open.pop(), self._items.pop()
+        self._flows -= bool(node.style)
+        node.value = list(zip(items[::2], items[1::2])) if node.kind == "mapping" else items
+
+    def _add_alias(self, event: Event) -> None:
+        surely(event[3] in self._anchors)
+        self._look_after(event[6])
+        self._put(self._anchors[event[3]], event[5])
+        self.has_aliases = True
+
 
 quick_yaml = lru_cache(maxsize=1)(QuickYaml)
-
-
-@lru_cache(maxsize=None)
-def _loader() -> Any:
-    """The class of PyYAML that calls libyaml, or nothing where there is none."""
-    with suppress(ImportError):
-        return getattr(importlib.import_module("yaml"), "CSafeLoader", None)
-    return None
-
-
-def _reader_of(text: str) -> Any:
-    """The reader of PyYAML that calls libyaml, for a text in which nothing is unusual."""
-    loader = _loader()
-    if not loader:
-        raise Unclear(0, "")
-    if not is_usual(text):
-        # (these patterns take long to compile, and most texts are usual)
-        directive = re.match(_DIRECTIVE, text)
-        if unusual := re.compile(_UNUSUAL).search(text, directive.end() if directive else 0):
-            raise Unclear(unusual.start())
-    return loader(text)
-
 
 # White space that has a TAB.
 _TABS = re.compile(r"(?<![ \t])[ \t]*\t[ \t]*")
@@ -130,149 +160,3 @@ def _is_within_line(text: str, tabs: Match[str], span: _Span) -> bool:
     # (the line with the sign of a block is none of it)
     is_text = style in "'\"" or bool(_BREAK.search(text, start, tabs.start()))
     return is_text and text[tabs.start() - 1] not in "\n\r\\" and text[tabs.end()] not in "\n\r"
-
-
-class _Composer:
-    """Makes nodes of the events of libyaml."""
-
-    def __init__(self, source: Source, most_nodes: int) -> None:
-        self._source = source
-        self._text = source.text
-        self._most = self.nodes_left = most_nodes
-        self._roots: List[Node] = []
-        self._anchors: Dict[str, Node] = {}
-        # The nodes of the collections that are not at their end yet, the outermost ones first, and the collections.
-        self._items: List[List[Node]] = [self._roots]
-        self._open: List[Node] = []
-        self._flows = 0
-        self.has_aliases = False
-        self.scalars: List[_Span] = []
-
-    def documents(self, reader: Any) -> List[Node]:
-        yaml: Any = importlib.import_module("yaml")
-        steps: Dict[Any, Any] = dict.fromkeys((yaml.MappingStartEvent, yaml.SequenceStartEvent), self._begin)
-        steps.update(dict.fromkeys((yaml.MappingEndEvent, yaml.SequenceEndEvent), self._end))
-        steps.update({yaml.ScalarEvent: self._add_scalar, yaml.AliasEvent: self._add_alias})
-        steps[yaml.DocumentStartEvent] = lambda event: self._anchors.clear()
-        try:
-            while event := reader.get_event():
-                step = steps.get(type(event))
-                if step:
-                    step(event)
-        # (an error of YAML, of any kind, is told by the other reader)
-        except (yaml.YAMLError, ValueError, OverflowError) as error:
-            mark = getattr(error, "problem_mark", None)
-            raise Unclear(mark.index if mark else 0, f"not YAML to libyaml: {getattr(error, 'problem', error)}") from error
-        finally:
-            reader.dispose()
-        return self._roots
-
-    def _add_scalar(self, event: Any) -> None:
-        # (`=` is a value of its own in YAML 1.1; a block that is the whole document ends elsewhere)
-        surely(event.style not in ("|", ">") or self._open if event.style else event.value != "=")
-        node = self._add("scalar", event.value, event.style or "", event)
-        self.scalars.append((node.start, node.end, node.style))
-
-    def _add(self, kind: str, value: Any, style: str, event: Any) -> Node:
-        start, anchor, tag = event.start_mark, event.anchor, event.tag
-        if tag is not None and tag not in _TAGS:
-            raise Unclear(start.index)
-        node = Node(kind, value, tag or "", style, anchor or "", start.index, event.end_mark.index, start.column, self._flows > 0)
-        self._put(node, start.index)
-        if anchor:
-            # (there is a tag before it where it is not here)
-            surely(self._text[start.index] == "&")
-            self._look_after(start.index + 1 + len(anchor))
-            self._anchors[anchor] = node
-        return node
-
-    def _put(self, node: Node, at: int) -> None:
-        self.nodes_left -= 1
-        if self.nodes_left < 0:
-            message = f"the file has more than {self._most:,} nodes of YAML, up to here (--max-file-nodes)"
-            raise BoundError.of(self._source, at, message)
-        self._items[-1].append(node)
-
-    def _look_after(self, end: int) -> None:
-        """Looks whether a name ends here, which may have more characters to others than to libyaml."""
-        surely(self._text[end : end + 1] in _AFTER_NAMES)
-
-    def _begin(self, event: Any) -> None:
-        surely(len(self._open) < _MOST_LEVELS)
-        kind = "mapping" if type(event).__name__ == "MappingStartEvent" else "sequence"
-        self._open.append(self._add(kind, [], "{" if event.flow_style else "", event))
-        self._flows += bool(event.flow_style)
-        self._items.append([])
-
-    def _end(self, event: Any) -> None:
-        node, items = self._open.pop(), self._items.pop()
-        self._flows -= bool(node.style)
-        node.value = list(zip(items[::2], items[1::2])) if node.kind == "mapping" else items
-
-    def _add_alias(self, event: Any) -> None:
-        node = self._anchors.get(event.anchor)
-        if not node:
-            raise Unclear
-        self._look_after(event.end_mark.index)
-        self._put(node, event.start_mark.index)
-        self.has_aliases = True
-
-
-class ShapedYaml:
-    """What a text says that is of a shape (`quick_rules`), without anchors and tags. Raises Unclear where that is not sure."""
-
-    def __init__(self, text: str, most_nodes: int, shape: Any) -> None:
-        reader, yaml = _reader_of(text), importlib.import_module("yaml")
-        self._text, self._take, self._nodes_left = text, reader.get_event, most_nodes
-        self._scalar = yaml.ScalarEvent
-        self._begins: Any = {dict: yaml.MappingStartEvent, list: yaml.SequenceStartEvent}
-        self._ends: Any = {dict: yaml.MappingEndEvent, list: yaml.SequenceEndEvent}
-        try:
-            # (a stream and a document begin, and at last both end)
-            self._take(), self._take()
-            self.root = self._read(self._take(), shape)
-            surely(self._take() and self._take() and not self._take())
-        except (yaml.YAMLError, ValueError, OverflowError) as error:
-            raise Unclear from error
-        finally:
-            reader.dispose()
-
-    def _read(self, event: Any, shape: Any) -> Any:
-        """What begins with an event that is to be a list or a mapping."""
-        surely(type(event) is self._begins.get(type(shape)) and not event.anchor and not event.tag)
-        self._nodes_left -= 1
-        surely(self._nodes_left >= 0)
-        if type(shape) is dict:
-            return self._read_mapping(shape)
-        items, end = [], self._ends[list]
-        while type(item := self._take()) is not end:
-            items.append(self._read(item, shape[0]))
-        return items
-
-    def _read_mapping(self, shape: Dict[str, Any]) -> Dict[str, Any]:
-        # (most of the time is spent here, so little is called for each key)
-        found: Dict[str, Any] = {}
-        take, scalar = self._take, self._scalar
-        while type(key := take()) is scalar:
-            name, value = key.value, take()
-            is_named = name in shape if shape else name != "__name__" and LABEL.fullmatch(name)
-            if not is_named or name in found or key.anchor or key.tag or len(found) > self._nodes_left:
-                raise Unclear
-            if type(value) is not scalar:
-                found[name] = self._read(value, shape.get(name))
-            elif shape.get(name) is not None or value.anchor or value.tag or not value.style and value.value in NO_TEXTS:
-                raise Unclear
-            else:
-                found[name] = value.value
-                if name == "expr" and shape:
-                    self._look_at_places(key, value)
-        self._nodes_left -= len(found) + sum(type(it) is str for it in found.values())
-        surely(type(key) is self._ends[dict] and self._nodes_left >= 0)
-        return found
-
-    def _look_at_places(self, key: Any, value: Any) -> None:
-        """Looks whether each character of a query has a place, which is the same one in most files."""
-        query, style, start, end = value.value, value.style or "", value.start_mark.index, value.end_mark.index
-        is_written = "\n" not in query and self._text[start + len(style) : end - len(style)] == query
-        surely(is_written or Scalar(self._text, start, end, start, style, False, 0).offsets(query) is not None)
-        surely(self._text[key.end_mark.index] == ":")

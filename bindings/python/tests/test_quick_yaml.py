@@ -11,7 +11,7 @@ from unittest import mock
 
 import test_rule_files
 from command_line import run
-from promql import jobs, quick_yaml, rule_files
+from promql import jobs, rule_files, yaml_events
 from promql.documents import Status, Target
 from promql.exact_yaml import ExactYaml
 from promql.files import FileError, Source
@@ -83,7 +83,7 @@ def exactly(cases):
     class Exactly(cases):
         def setUp(self):
             super().setUp()
-            patched = mock.patch.object(quick_yaml, "_loader", lambda: None)
+            patched = mock.patch.object(yaml_events, "_reader", lambda: None)
             patched.start()
             self.addCleanup(patched.stop)
 
@@ -197,7 +197,7 @@ class WithoutLibyaml(Folder):
     def test_same_answers(self):
         path = self.file(file_of("up=="))
         quick = run("check", path)
-        with mock.patch.object(quick_yaml, "_loader", lambda: None):
+        with mock.patch.object(yaml_events, "_reader", lambda: None):
             self.assertEqual(run("check", path), quick)
 
     def test_unclear_after_formatting(self):

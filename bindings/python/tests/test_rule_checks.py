@@ -12,7 +12,7 @@ from unittest import mock
 
 import rule_verdicts
 from command_line import run
-from promql import quick_yaml
+from promql import yaml_events
 from promql.go_templates import fault_of
 from rule_verdicts import AFTER_ALERT, DIFFERENT, FILES, NO_TEMPLATES, RULES, TEMPLATES, file_at_random
 from syntax_errors import NO_OPERAND
@@ -55,9 +55,9 @@ def alerts(templates):
 
 class Files(Folder):
     def test_first_message(self):
-        for reader in (quick_yaml._loader, lambda: None):
+        for reader in (yaml_events._reader, lambda: None):
             for text, _, message in (*FILES, *DIFFERENT):
-                with self.subTest(text), mock.patch.object(quick_yaml, "_loader", reader):
+                with self.subTest(text), mock.patch.object(yaml_events, "_reader", reader):
                     path = self.file(text)
                     ran = run("check", path)
                     said = ran.err.replace(NO_QUERY, "")
