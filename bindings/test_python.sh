@@ -83,7 +83,7 @@ test_extension() {
         try 'building the extension for Python with sanitizers' build_sanitized_extension
         write_python "$work/python_sanitized" "env LD_PRELOAD=$("${CC:-cc}" -print-file-name=libasan.so) ASAN_OPTIONS=detect_leaks=0"
         python=$work/python_sanitized PROMQL_EXTENSION=$work/sanitized_extension/_native.abi3.so PROMQL_BROKEN=5000 \
-            add 'the extension for Python with sanitizers' unit_tests "$here/python" 'test_[cpn]*.py'
+            add 'the extension for Python with sanitizers' unit_tests "$here/python" 'test_[cpny]*.py'
     fi
     has valgrind 'the extension for Python under valgrind' || return
     write_python "$work/python_valgrind" "valgrind --quiet --undef-value-errors=no --error-exitcode=99"
@@ -91,6 +91,8 @@ test_extension() {
         add 'the extension for Python under valgrind' unit_tests "$here/python" test_calls.py -k Same -k Many -k Memory
     python=$work/python_valgrind PROMQL_CHANGED=50 PROMQL_EXTENSION=$work/extension/$(uname -m)/_native.abi3.so \
         add 'nodes of the extension for Python under valgrind' unit_tests "$here/python" test_node_calls.py -k changed -k queries -k no_nodes -k learn
+    python=$work/python_valgrind PROMQL_EXTENSION=$work/extension/$(uname -m)/_native.abi3.so \
+        add 'events of YAML of the extension for Python under valgrind' unit_tests "$here/python" test_yaml_events.py -k told -k bound -k parts
 }
 
 # ---- the schema

@@ -8,12 +8,12 @@ from unittest import mock
 import rule_verdicts
 import test_quick_yaml
 from command_line import run
-from promql import documents
+from promql import documents, yaml_events
 from promql.checked_queries import FileBounds, QueryChecker
 from promql.files import Source, Unclear
 from promql.quick_rules import RulesInOrder
 from rule_verdicts import RULES
-from test_quick_yaml import PIECES, RANDOM
+from test_quick_yaml import PIECES, RANDOM, readers
 from test_rule_files import PLACES, RULE, Folder, file_of
 
 ALERT = RULES + "  - alert: A\n    expr: up\n"
@@ -77,12 +77,16 @@ def rule_count(text, bounds=FileBounds()):
 
 class QuickRules(Folder):
     def compare(self, text):
-        """Whether the quick pass takes a text, of which the report is the same without it."""
+        """Whether the quick pass takes a text, of which the report is the same without it, and with each reader."""
+        taken = rule_count(text)
         path = self.file(text)
         quick = run("check", "-v", path)
+        for reader in readers():
+            with mock.patch.object(yaml_events, "_reader", lambda: reader):
+                self.assertEqual((run("check", "-v", path), rule_count(text)), (quick, taken), repr(text))
         with mock.patch.object(documents, "RulesInOrder", mock.Mock(side_effect=Unclear)):
             self.assertEqual(run("check", "-v", path), quick, repr(text))
-        return rule_count(text) is not None
+        return taken is not None
 
     def test_in_order(self):
         for name, (text, rules) in TAKEN.items():

@@ -112,6 +112,33 @@ def flat(roots):
     return found
 
 
+def readers():
+    """What calls libyaml: PyYAML, and the extension where it finds one."""
+    return list({yaml_events._by_pyyaml, yaml_events._reader()})
+
+
+def outcome(text, most_nodes=50_000):
+    """What is read of a text, or where it is unclear, and why."""
+    try:
+        quick = QuickYaml(Source("a.yml", text, ""), most_nodes)
+    except Unclear as unclear:
+        return unclear.at, unclear.why
+    except FileError as error:
+        return error.span, str(error)
+    tags = [(node.tag, node.end, node.in_flow) for node in nodes_of(quick.roots)]
+    return flat(quick.roots), tags, quick.has_aliases, quick.nodes_left
+
+
+def nodes_of(roots):
+    """The nodes of the documents, each once."""
+    found, todo = {}, list(roots)
+    while todo:
+        node = todo.pop()
+        if found.setdefault(id(node), node) is node and not node.is_scalar():
+            todo += node.value if node.kind == "sequence" else sum(node.value, ())
+    return found.values()
+
+
 def parts(source, reader):
     """The queries that a reader finds, with all their places, and the faults; or the error."""
     try:
@@ -136,6 +163,7 @@ class Readers(unittest.TestCase):
     def compare(self, text):
         """Whether the quick reader takes a text; it then is read as the exact one reads it."""
         source = Source("a.yml", text, "")
+        self.compare_readers(text)
         try:
             quick = QuickYaml(source)
             found = parts(source, QuickYaml)
@@ -144,6 +172,21 @@ class Readers(unittest.TestCase):
         self.assertEqual(flat(quick.roots), flat(ExactYaml(source).roots), repr(text))
         self.assertEqual(found, parts(source, ExactYaml), repr(text))
         return True
+
+    def compare_readers(self, text, most_nodes=50_000):
+        """The extension and PyYAML give the same nodes, and take the same texts."""
+        found = []
+        for reader in readers():
+            with mock.patch.object(yaml_events, "_reader", lambda: reader):
+                found.append(outcome(text, most_nodes))
+        self.assertEqual(found[:1] * len(found), found, repr(text)[:1_000])
+
+    def test_bounds(self):
+        for text in (*TAKEN.values(), RULE + PLACES["plain"][0]):
+            for most in range(20):
+                self.compare_readers(text, most)
+        for text in ("- a\n" * 60_000, "---\n" * 60_000, "\n" * 10_000_000, "[" * 101 + "]" * 101, "- " * 100 + "a", "'a", "a\0", "a\ud800", ""):
+            self.compare_readers(text)
 
     def test_files(self):
         for name in NAMES:
