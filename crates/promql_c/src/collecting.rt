@@ -133,9 +133,6 @@ impl TreeCall for CollectCall {
         _query: &str,
         expr: &Expr,
     ) -> Result<String, QueryError> {
-        match collected_text(alloc, expr) {
-            Ok(text) => Ok(text),
-            Err(_) => Err(QueryError::Memory),
-        }
+        Ok(collected_text(alloc, expr)?)
     }
 }

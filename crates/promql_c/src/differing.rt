@@ -67,9 +67,6 @@ impl TreeCall for DifferencesCall<'_> {
         query: &str,
         _expr: &Expr,
     ) -> Result<String, QueryError> {
-        match text_of_findings(alloc, self.limits, query) {
-            Ok(text) => Ok(text),
-            Err(_) => Err(QueryError::Memory),
-        }
+        Ok(text_of_findings(alloc, self.limits, query)?)
     }
 }

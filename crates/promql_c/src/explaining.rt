@@ -42,16 +42,12 @@ fn explain_text(
 ) -> Result<String, QueryError>
     ensures { Gives (Explains limits.now as_json text.now) (λ e. ⊥) (on_result (λ s. string_bytes s) result) }
 {
-    match read_query(alloc, limits, text) {
-        Ok(Ok(expr)) => {
+    match read_query(alloc, limits, text)? {
+        Ok(expr) => {
             drop_expr(expr);
             Ok(String::new(alloc))
         }
-        Ok(Err(rejection)) => match explanation(alloc, text, rejection, as_json) {
-            Ok(explanation) => Ok(explanation),
-            Err(_) => Err(QueryError::Memory),
-        },
-        Err(_) => Err(QueryError::Memory),
+        Err(rejection) => Ok(explanation(alloc, text, rejection, as_json)?),
     }
 }
 

@@ -67,10 +67,7 @@ impl TreeCall for PlacesCall {
         query: &str,
         expr: &Expr,
     ) -> Result<String, QueryError> {
-        match text_of_places(alloc, query, expr) {
-            Ok(text) => Ok(text),
-            Err(_) => Err(QueryError::Memory),
-        }
+        Ok(text_of_places(alloc, query, expr)?)
     }
 }
 
@@ -150,9 +147,6 @@ impl TreeCall for PartsCall {
         query: &str,
         expr: &Expr,
     ) -> Result<String, QueryError> {
-        match text_of_parts(alloc, query, expr) {
-            Ok(text) => Ok(text),
-            Err(_) => Err(QueryError::Memory),
-        }
+        Ok(text_of_parts(alloc, query, expr)?)
     }
 }

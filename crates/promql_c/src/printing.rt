@@ -34,10 +34,9 @@ fn print_tree(
     requires plain { HasNoExtension (tree_of expr.now) }
     ensures { Prints limits.now [] (Mode.Plain format) (tree_of expr.now) (on_result (λ s. string_bytes s) result) }
 {
-    match shown_text(alloc, format, expr) {
-        Ok(Some(text)) => output_within(limits, text),
-        Ok(None) => Err(QueryError::NoForm(JsonError::NumberTooWide)),
-        Err(_) => Err(QueryError::Memory),
+    match shown_text(alloc, format, expr)? {
+        Some(text) => output_within(limits, text),
+        None => Err(QueryError::NoForm(JsonError::NumberTooWide)),
     }
 }
 
@@ -120,8 +119,5 @@ pub(crate) fn mark_query(alloc: Global, query: &[u8], span: Span) -> Result<Stri
     let Ok(text) = str::from_utf8(query) else {
         return Err(QueryError::NotUtf8);
     };
-    match promql_span::snippet(alloc, text, span) {
-        Ok(marked) => Ok(marked),
-        Err(_) => Err(QueryError::Memory),
-    }
+    Ok(promql_span::snippet(alloc, text, span)?)
 }

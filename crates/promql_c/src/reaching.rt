@@ -57,10 +57,7 @@ fn text_of_reaches(alloc: Global, times: &Times, expr: &Expr) -> Result<String, 
     ensures { GivesReaches times.now (tree_of expr.now) (on_result (λ s. string_bytes s) result) }
 {
     match reaches(alloc, expr, times) {
-        Ok(found) => match reaches_text(alloc, found.as_slice()) {
-            Ok(text) => Ok(text),
-            Err(_) => Err(QueryError::Memory),
-        },
+        Ok(found) => Ok(reaches_text(alloc, found.as_slice())?),
         Err(error) => Err(error_of(alloc, error)),
     }
 }

@@ -83,10 +83,7 @@ fn bool_text(alloc: Global, value: bool) -> Result<String, QueryError>
     ensures ok { IfOk result (λ s. string_bytes s ≡ compact_text (boolean value)) }
     ensures err { IfErr result (λ e. e ≡ QueryError.Memory) }
 {
-    match value_text(alloc, Value::Bool(value)) {
-        Ok(text) => Ok(text),
-        Err(_) => Err(QueryError::Memory),
-    }
+    Ok(value_text(alloc, Value::Bool(value))?)
 }
 
 /// Whether an expression may read the series with these labels, as JSON.

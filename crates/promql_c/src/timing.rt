@@ -48,10 +48,7 @@ fn text_of_last_read(
     ensures { GivesLastRead times.now time (tree_of expr.now) (on_result (λ s. string_bytes s) result) }
 {
     match last_read(alloc, expr, time, times) {
-        Ok(last) => match last_text(alloc, last) {
-            Ok(text) => Ok(text),
-            Err(_) => Err(QueryError::Memory),
-        },
+        Ok(last) => Ok(last_text(alloc, last)?),
         Err(error) => Err(error_of(alloc, error)),
     }
 }
@@ -95,10 +92,7 @@ fn line_of_pinned(
     };
     let line = pinned.to_string(alloc);
     drop_expr(pinned);
-    match line {
-        Ok(line) => output_within(limits, line),
-        Err(_) => Err(QueryError::Memory),
-    }
+    output_within(limits, line?)
 }
 
 /// `calls::pinned`.
@@ -138,9 +132,6 @@ impl TreeCall for ConstantCall {
         _query: &str,
         expr: &Expr,
     ) -> Result<String, QueryError> {
-        match value_text(alloc, Value::Bool(is_constant(expr))) {
-            Ok(text) => Ok(text),
-            Err(_) => Err(QueryError::Memory),
-        }
+        Ok(value_text(alloc, Value::Bool(is_constant(expr)))?)
     }
 }
