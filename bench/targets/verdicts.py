@@ -28,6 +28,7 @@ from checks import Checks
 from classes import ESCAPE, classes_of, ends_operand, is_byte_escape, nodes_of
 from examples import lines_of
 from promql.lint import go_patterns
+from promql.lint.patterns import SPACED_COUNT
 from promql.token_texts import MATCHER_SIGNS, Token, code_of
 
 NO_LIMIT = 2**64 - 1
@@ -243,6 +244,28 @@ def byte_of(escape: str) -> int:
     return int(escape[1:], 16) if escape[0] == "x" else int(escape, 8)
 
 
+def takes_nothing_there(matcher: Dict[str, Any]) -> bool:
+    """Whether a matcher takes the empty text where counts that Go does not know are text."""
+    value = matcher["value"]
+    if matcher["type"] in ("=", "!="):
+        is_empty = not value
+    else:
+        with contextlib.suppress(re.error):
+            value = re.compile(SPACED_COUNT.sub(lambda count: re.escape(count[0]), value))
+        is_empty = isinstance(value, re.Pattern) and value.fullmatch("") is not None
+    return is_empty == (matcher["type"] in ("=", "=~"))
+
+
+def has_pattern_of_nothing_there(query: Query) -> bool:
+    """A selector without a name has a count that Go does not know, and with that as text each of its matchers takes the empty text."""
+    for node in query.nodes:
+        matchers = node["matchers"] if node["type"] == "vectorSelector" and node["name"] is None else []
+        has_count = any(SPACED_COUNT.search(it["value"]) for it in matchers if it["type"] in ("=~", "!~"))
+        if has_count and all(map(takes_nothing_there, matchers)):
+            return True
+    return False
+
+
 HERE: Dict[str, Callable[[Query], bool]] = {
     "form feed": has_form_feed,
     "or between matchers": has_or_groups,
@@ -263,12 +286,20 @@ HERE: Dict[str, Callable[[Query], bool]] = {
     "number for the vector of a logarithm": has_bare_literal,
     "pattern that Go rejects": has_pattern_of_rust,
     "bytes of a pattern": has_pattern_of_bytes,
+    "pattern that matches nothing there": has_pattern_of_nothing_there,
 }
 
 
 # The kinds of which the library does not tell that this server rejects them, or not of all.
 NOT_TOLD = frozenset(
-    ("form feed", "plus before a string or a range", "number past a double", "pattern that Go rejects", "bytes of a pattern")
+    (
+        "form feed",
+        "plus before a string or a range",
+        "number past a double",
+        "pattern that Go rejects",
+        "bytes of a pattern",
+        "pattern that matches nothing there",
+    )
 )
 
 
@@ -376,6 +407,9 @@ EXAMPLES = r"""
     a{b=~"\Qc\E"}
     a{b=~"\07"}
     {a=~"b{ 0 }"}
+    {a!~"b{00}"}
+    {a!~"b{00}",c="d"}
+    {a!~"b{0}"}
 """
 EXAMPLES_OF_LINES = ("a[5m # c\n]", "a[5m:# c\n1m]", "a\f+ b", "sum by (a\f) (b)", "a{\fb='c'}", "a # \f\n")
 

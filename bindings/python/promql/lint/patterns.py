@@ -15,7 +15,7 @@ _ESCAPE = re.compile(r"\\[pPx]\{[^}]*\}|\\[bB](\{[^}]*\})?|\\.", re.S)
 _HAS_FLAGS = re.compile(r"\(\?[a-zA-Z-]")
 _POSIX = re.compile(r"\[:\^?[a-z]+:\]")
 # A count in the crate `regex` and not in Go: with white space, or with zeros before it.
-_SPACED_COUNT = re.compile(r"\{(?:\s+\d+\s*|\s*\d+\s+|0\d+)(?:,\s*\d*\s*)?\}|\{\d+,(?:\s+\d*\s*|\d*\s+|0\d+)\}")
+SPACED_COUNT = re.compile(r"\{(?:\s+\d+\s*|\s*\d+\s+|0\d+)(?:,\s*\d*\s*)?\}|\{\d+,(?:\s+\d*\s*|\d*\s+|0\d+)\}")
 
 
 def literal(pattern: str) -> Optional[str]:
@@ -126,7 +126,7 @@ def difference(pattern: str) -> str:
             escape = _ESCAPE.match(pattern, at)
             if escape:
                 end, why = escape.end(), _of_escape(escape)
-            elif spaced := _SPACED_COUNT.match(pattern, at):
+            elif spaced := SPACED_COUNT.match(pattern, at):
                 why = f"`{spaced[0]}` is no count there, but means itself"
         if why:
             return why
