@@ -32,7 +32,7 @@ extern "C" {
 #endif
 
 /* The version of this header; promql_version has that of the library. */
-#define PROMQL_VERSION "0.8.0"
+#define PROMQL_VERSION "0.9.0"
 
 /* How promql_print prints. */
 enum promql_mode {
