@@ -3,7 +3,7 @@ use Rattle.std.specs.Prelude.{◌≡◌, Bool, true, false, not, ◌&&◌, ◌||
 use Rattle.regex.specs.Patterns.{default_config, find_str}
 use Rattle.regex_syntax.specs.Grammar.{read}
 use Rattle.promql_text.specs.Texts.{Text}
-use Rattle.promql_label.specs.PatternSize.{is_small}
+use Rattle.promql_label.specs.PatternMeasure.{measure}
 use Rattle.promql_label.specs.Repeats.{escaped_repeats}
 
 -- "Anchoring": the text that is built of a pattern
@@ -18,13 +18,16 @@ is_read w = unwrap_or (option_map (λ p. nat_le p.0.depth default_config.nest_li
 abbrev pub is_read_pair : Text → Bool
 is_read_pair u = is_read u && is_read (anchor u)
 
+-- "Small patterns": the grammar reads the form, which measures little
+abbrev pub is_small : Text → Bool
+is_small u = nat_le (measure u) 16000 && is_read_pair u
+
 -- what is returned for a pattern: the built text, or that it is rejected
 pub data Answer : Type 0 where
   built : Text → Answer
   rejected : Answer
 
--- "Answers": this result is allowed for a pattern. A form that is not small may be rejected, of which then nothing is said; a small one is
--- read (the law `plain_patterns_are_read`)
+-- "Answers": this result is allowed for a pattern. A form that is not small may be rejected, of which then nothing is said
 pub data Allows : Text → Answer → Type 0 where
   as_it_is : (v : Text) → is_read_pair v ≡ true → Allows v (built (anchor v))
   by_escaping : (v : Text) → is_small v ≡ false → is_read_pair (escaped_repeats v) ≡ true → Allows v (built (anchor (escaped_repeats v)))

@@ -4,8 +4,7 @@ use Rattle.regex.specs.Strings.{regex_source, regex_config, IsReadFromSource}
 use Rattle.regex.specs.Patterns.{default_config}
 use Rattle.regex.specs.declared.string.regex.Regex.{Regex}
 use Rattle.promql_text.specs.Texts.{Text}
-use Rattle.promql_label.specs.Answers.{anchor, Answer, built, is_read, rejected}
-use Rattle.promql_label.specs.PatternSize.{is_small}
+use Rattle.promql_label.specs.Answers.{anchor, Answer, built, is_read, is_read_pair, is_small, rejected}
 use Rattle.promql_label.specs.Repeats.{escaped_repeats}
 use Rattle.promql_label.specs.PatternRejections.{rejected_value}
 use Rattle.promql_label.specs.declared.pattern.PatternFault.{PatternFault}
@@ -26,10 +25,10 @@ abbrev pub IsRejected : Text → Type 0 → PatternFault → Type 0
 IsRejected text Allowed fault = IfSome (rejected_value fault) (λ s. (s ≡ text) × Allowed)
 
 module _ (Rejects : Text → Type 0) where
-  -- a form may be rejected, of which this text is built: it is not small (the law `plain_patterns_are_read`), and the grammar does not read
-  -- it, or `regex` was asked for the text and rejected it
+  -- a form may be rejected, of which this text is built: it is not small, and the grammar does not read it both by itself and anchored, or
+  -- `regex` was asked for the text and rejected it
   abbrev pub MayRejectBy : Text → Text → Type 0
-  MayRejectBy u w = (is_small u ≡ false) × ((is_read u ≡ false) ⊎ Rejects w)
+  MayRejectBy u w = (is_small u ≡ false) × ((is_read_pair u ≡ false) ⊎ Rejects w)
 
   -- what becomes of a form that is tried: its anchored text, or nothing
   abbrev pub IsTriedBy : Text → Option Text → Type 0

@@ -47,11 +47,16 @@ may_fold in_flags (b ∷ z) = in_flags && b == code "i" || may_fold (b == code "
 abbrev pub is_set_sign : ℕ → Bool
 is_set_sign b = b == code "[" || b == code "-" || b == code "&" || b == code "~"
 
--- a backslash begins a class of many ranges, as `\w`; folding its case costs more, and each class around it and each operator fold again
+-- the letters right after a backslash; a text comes after the byte `before`
+abbrev pub letter_escapes : ℕ → Text → ℕ
+letter_escapes before [] = 0
+letter_escapes before (b ∷ z) = (if before == code "\\" && is_ascii_alphabetic b then 1 else 0) + letter_escapes b z
+
+-- an escaped letter may be a class of many ranges, as `\w`; folding its case costs more, and each class around it and each operator fold again
 abbrev pub class_weight : Text → ℕ
 class_weight v =
-    if may_fold false v then (count_by (λ b. b == code "\\") v + 1) * (count_by is_set_sign v + 1) * 20
-    else 10 * count_by (λ b. b == code "\\") v
+    if may_fold false v then (letter_escapes 0 v + 1) * (count_by is_set_sign v + 1) * 22
+    else 22 * letter_escapes 0 v
 
 -- the bytes of the anchored text, and what its classes weigh, so often
 abbrev pub measure : Text → ℕ

@@ -1,11 +1,11 @@
--- Which patterns are small (docs/reference/matchers.md, "Small patterns").
-use Rattle.std.specs.Prelude.{ℕ, ◌+◌, ◌*◌, Bool, ◌==◌, ◌&&◌, if◌then◌else◌, [], ◌∷◌, length, nat_le}
+-- The sizes and weights of plain patterns (docs/reference/matchers.md, "Sizes of plain patterns").
+use Rattle.std.specs.Prelude.{ℕ, ◌+◌, ◌*◌, ◌==◌, if◌then◌else◌, [], ◌∷◌, length}
 use Rattle.regex.specs.Patterns.{Re}
 use Rattle.promql_text.specs.Texts.{Text, code}
 use Rattle.promql_label.specs.declared.plain.After.{After}
 use Rattle.promql_label.specs.declared.plain.After.TheVariants as after
 use Rattle.promql_label.specs.declared.plain.Scan.{Scan}
-use Rattle.promql_label.specs.PlainPatterns.{is_plain, next, start}
+use Rattle.promql_label.specs.PlainPatterns.{next, start}
 
 -- f, times one more than the greatest number of the count that the byte ends, if it ends one
 abbrev pub times : After → ℕ → ℕ → ℕ
@@ -31,7 +31,3 @@ weight (Re.alt a b) = weight a + weight b
 weight (Re.group n a) = weight a
 weight (Re.plus greedy a) = weight a
 weight _ = 1
-
--- "Small patterns"
-abbrev pub is_small : Text → Bool
-is_small v = is_plain v && nat_le (size v) 1000

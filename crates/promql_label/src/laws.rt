@@ -8,11 +8,11 @@ ghost use Rattle.std.specs.Str.{bytes_eq};
 ghost use Rattle.std.specs.List.Sorted.{IsSortedByKey, IsStableByKey};
 ghost use Rattle.promql_text.specs.Quoting.{quoted_text, unquoted_text};
 ghost use Rattle.promql_text.specs.Texts.{Text};
-ghost use Rattle.promql_label.specs.Answers.{Allows, anchor, Answer, has_one_answer, is_read_pair, pattern_answer};
+ghost use Rattle.promql_label.specs.Answers.{Allows, anchor, Answer, has_one_answer, is_read_pair, is_small, pattern_answer};
 ghost use Rattle.promql_label.specs.Labels.{common, is_among, is_number_word, label_text, labels_of};
 ghost use Rattle.promql_label.specs.MatcherRows.{WorkedLists};
 ghost use Rattle.promql_label.specs.Operators.{IsMatcherOf};
-ghost use Rattle.promql_label.specs.PatternSize.{is_small, size, weight};
+ghost use Rattle.promql_label.specs.PatternSize.{size, weight};
 ghost use Rattle.promql_label.specs.PlainPatterns.{is_plain};
 ghost use Rattle.promql_label.specs.PlainMatchers.{Operator, PlainMatcher, PlainMatchers, append_plain, matcher_text, matchers_text, name_of, name_text, operator_text, plain_matchers, value_of};
 ghost use Rattle.promql_label.specs.ReadMatchers.{MeanGroups, operator_id, parts_of, printed_groups, sorted_matchers};
@@ -170,7 +170,7 @@ pub fn equal_patterns()
 {}
 
 /// A pattern has one answer, which is computed, if each form of it that is tried is small or not read; any other may have it, or
-/// be rejected for its size.
+/// be rejected for its size. A pattern is small if its grammar reads both its texts, and it measures at most 16,000.
 pub fn small_patterns_have_one_answer()
     ensures small { (v : Text) → has_one_answer v ≡ true → (a : Answer) → Allows v a
         → a ≡ pattern_answer v }
@@ -182,15 +182,12 @@ pub fn plain_patterns_are_read()
     ensures { (v : Text) → is_plain v ≡ true → is_read_pair v ≡ true }
 {}
 
-/// What the grammar reads in a plain pattern, by itself and anchored, weighs no more than the pattern's size; that of a small one,
-/// anchored, weighs at most 1,000.
+/// What the grammar reads in a plain pattern, by itself and anchored, weighs no more than the pattern's size.
 pub fn plain_patterns_weigh_their_size_at_most()
     ensures alone { (v : Text) → is_plain v ≡ true
         → IsSomeAnd (read default_config (chars v)) (λ p. weight p.0.value ≤ size v) }
     ensures anchored { (v : Text) → is_plain v ≡ true
         → IsSomeAnd (read default_config (chars (anchor v))) (λ p. weight p.0.value ≤ size v) }
-    ensures small { (v : Text) → is_small v ≡ true
-        → IsSomeAnd (read default_config (chars (anchor v))) (λ p. weight p.0.value ≤ 1000) }
 {}
 
 /// What is fed to a hasher: of labels their texts, of matchers their operators, names and values, of a

@@ -26,7 +26,6 @@ pub mod matcher;
 pub mod matchers;
 mod measure;
 pub mod pattern;
-mod pattern_size;
 mod plain;
 mod printed_len;
 pub mod repeats;

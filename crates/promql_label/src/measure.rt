@@ -21,7 +21,9 @@ pub fn pattern_measure(value: &str) -> usize
 fn repeats(value: &[u8]) -> usize
     ensures { result ≡ min (spec.repeats value.now) usize.MAX }
 {
-    if value.contains(&b'#') {
+    if !value.contains(&b'{') {
+        1
+    } else if value.contains(&b'#') {
         commented(value)
     } else {
         counted(value)
@@ -37,18 +39,39 @@ fn weight(value: &[u8]) -> usize
         .saturating_add(6)
 }
 
-/// What the classes of a value weigh beside its bytes: ten for each backslash. Where case may be folded it is 20 for each pair of a
-/// backslash and a sign of sets, with one more of either.
+/// What the classes of a value weigh beside its bytes: 22 for each escaped letter. Where case may be folded it is 22 for each pair of an
+/// escaped letter and a sign of sets, with one more of either.
 fn class_weight(value: &[u8]) -> usize
     ensures { result ≡ min (spec.class_weight value.now) usize.MAX }
 {
-    let escapes = value.iter().filter(|b| **b == b'\\').count();
+    let escapes = letter_escapes(value);
     if may_fold(value) {
         let signs = value.iter().filter(|b| is_set_sign(**b)).count();
-        (escapes + 1).saturating_mul(signs + 1).saturating_mul(20)
+        (escapes + 1).saturating_mul(signs + 1).saturating_mul(22)
     } else {
-        escapes.saturating_mul(10)
+        escapes.saturating_mul(22)
     }
+}
+
+/// How many letters come right after a backslash.
+fn letter_escapes(value: &[u8]) -> usize
+    ensures count { result ≡ spec.letter_escapes 0 value.now }
+    ensures within { result ≤ length value.now }
+{
+    if !value.contains(&b'\\') {
+        return 0;
+    }
+    let mut letters = 0;
+    let mut before = 0;
+    let mut rest = value;
+    while let [b, after @ ..] = rest {
+        if before == b'\\' && b.is_ascii_alphabetic() {
+            letters += 1;
+        }
+        before = *b;
+        rest = after;
+    }
+    letters
 }
 
 /// Whether a byte may begin a class, or be of an operator of classes.
@@ -62,6 +85,9 @@ fn is_set_sign(b: u8) -> bool
 fn may_fold(value: &[u8]) -> bool
     ensures { result ≡ spec.may_fold false value.now }
 {
+    if !value.contains(&b'?') {
+        return false;
+    }
     let mut in_flags = false;
     let mut rest = value;
     while let [b, after @ ..] = rest {

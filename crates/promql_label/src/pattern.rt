@@ -1,17 +1,17 @@
 //! Patterns: docs/reference/matchers.md, "Patterns".
 
-ghost use Rattle.std.specs.Prelude.{◌≡◌, true, false, [], IfOk, IfErr, IfSome, IfNone, string_bytes};
+ghost use Rattle.std.specs.Prelude.{◌≡◌, true, false, [], IfOk, IfErr, IfSome, IfNone, nat_le, string_bytes};
 ghost use Rattle.regex.specs.Patterns.{default_config};
 ghost use Rattle.regex.specs.Strings.{regex_config, regex_source, IsReadFromSource};
 ghost use Rattle.promql_label.specs.PatternRejections.{rejected_value};
 ghost use Rattle.promql_label.specs.Answers as spec;
 ghost use Rattle.promql_label.specs.Answers.{Allows, built, finds, rejected};
+ghost use Rattle.promql_label.specs.PatternMeasure.{measure};
 ghost use Rattle.promql_label.specs.EngineAnswers.{AllowsBy, IsCompiledFrom, IsRead, IsRejected, IsTriedBy, MayRejectBy};
-ghost use Rattle.promql_label.specs.PatternSize as sizes;
 ghost use Rattle.promql_text.specs.Texts.{Text};
 
 use crate::empty_text::matches_empty;
-use crate::pattern_size::is_small;
+use crate::measure::pattern_measure;
 use crate::plain::is_plain;
 use crate::repeats::escape_repeats;
 use regex::Regex;
@@ -22,6 +22,9 @@ use std::hash::{Hash, Hasher};
 use std::marker::Model;
 use std::sync::Arc;
 use thiserror::Error;
+
+/// The greatest measure of a small pattern.
+const MAX_SMALL: usize = 16_000;
 
 /// A text that the grammar of `regex` reads, and what was compiled of it, once it is prepared.
 #[derive(Drop)]
@@ -100,6 +103,21 @@ fn is_read(alloc: Global, text: &str) -> Result<bool, AllocError>
     }
 }
 
+/// Whether the grammar of `regex` reads a form of a value both by itself and anchored.
+fn is_read_pair(alloc: Global, form: &str, anchored: &str) -> Result<bool, AllocError>
+    requires { anchored.now ≡ spec.anchor form.now }
+    ensures { IfOk result (λ is. is ≡ spec.is_read_pair form.now) }
+{
+    Ok(is_plain(form) || is_read(alloc, form)? && is_read(alloc, anchored)?)
+}
+
+/// Whether a form measures so little that `regex` takes it if its grammar reads it.
+fn measures_little(form: &str) -> bool
+    ensures { result ≡ nat_le (measure form.now) 16000 }
+{
+    pattern_measure(form) <= MAX_SMALL
+}
+
 /// The text that is built of a form of a value.
 fn anchor(alloc: Global, form: &str) -> Result<String, AllocError>
     ensures { IfOk result (λ text. string_bytes text ≡ spec.anchor form.now) }
@@ -135,7 +153,8 @@ impl Engine for RegexCrate {
     }
 }
 
-/// The pattern of a text as it is, if `regex` takes it.
+/// The pattern of a text as it is, if the grammar of `regex` reads it, and `regex` takes it, which is asked of it where the text measures
+/// more than a small one.
 fn take_text<E: Engine>(
     engine: &E,
     alloc: Global,
@@ -144,7 +163,12 @@ fn take_text<E: Engine>(
     ensures read { IfOk result (λ o. IfSome o (λ p. (p ≡ text.now) × IsRead text.now)) }
     ensures rejected { IfOk result (λ o. IfNone o (MayRejectBy E.rejects text.now text.now)) }
 {
-    if is_small(text) || engine.takes(alloc, text)? {
+    let is_taken = if measures_little(text) {
+        is_read(alloc, text)?
+    } else {
+        engine.takes(alloc, text)?
+    };
+    if is_taken {
         let copy = String::from_str(alloc, text)?;
         Ok(Some(Pattern::new(alloc, copy, None)?))
     } else {
@@ -152,7 +176,8 @@ fn take_text<E: Engine>(
     }
 }
 
-/// The pattern of a form of a value, if `regex` reads that form by itself and takes it anchored.
+/// The pattern of a form of a value, if the grammar of `regex` reads it by itself and anchored, and `regex` takes it anchored, which is
+/// asked of it where the form measures more than a small one.
 fn take_anchored<E: Engine>(
     engine: &E,
     alloc: Global,
@@ -161,7 +186,12 @@ fn take_anchored<E: Engine>(
     ensures { IfOk result (IsTriedBy E.rejects form.now) }
 {
     let text = anchor(alloc, form)?;
-    if is_small(form) || is_read(alloc, form)? && engine.takes(alloc, text.as_str())? {
+    let is_taken = if measures_little(form) {
+        is_read_pair(alloc, form, text.as_str())?
+    } else {
+        is_read(alloc, form)? && engine.takes(alloc, text.as_str())?
+    };
+    if is_taken {
         Ok(Some(Pattern::new(alloc, text, None)?))
     } else {
         Ok(None)
@@ -229,7 +259,7 @@ impl Pattern {
     pub fn of_text(alloc: Global, text: &str) -> Result<Pattern, PatternFault>
         ensures built { IfOk result (λ p. (p ≡ text.now) × (spec.is_read text.now ≡ true)) }
         ensures rejected { IfErr result (λ fault. IfSome (rejected_value fault)
-            (λ s. (s ≡ text.now) × (sizes.is_small text.now ≡ false))) }
+            (λ s. (s ≡ text.now) × (spec.is_small text.now ≡ false))) }
     {
         read_text(&RegexCrate, alloc, text)
     }

@@ -1,29 +1,26 @@
 -- The answers that `regex` may give for a pattern, and the one that is computed.
-use Rattle.std.proofs.Common.{◌≡◌, Bool, true, false, not, ◌&&◌, ◌||◌, cond, refl, sym, ap, ◌∙◌, ⊎_elim, true≢false}
-use Rattle.std.proofs.lemmas.Bool.{and_parts, cases_Bool, not-true}
+use Rattle.std.proofs.Common.{◌≡◌, Bool, true, false, not, ◌&&◌, ◌||◌, cond, refl, sym, ap, ◌∙◌}
+use Rattle.std.proofs.lemmas.Bool.{and_parts, not-true}
 use Rattle.promql_text.specs.Texts.{Text}
-use Rattle.promql_label.specs.Answers.{Answer, Allows, anchor, as_it_is, built, by_escaping, has_one_answer, is_read_pair, neither, pattern_answer, rejected}
-use Rattle.promql_label.specs.EngineAnswers.{IsReadPair}
-use Rattle.promql_label.specs.PatternSize.{is_small, size}
-use Rattle.promql_label.specs.PlainPatterns.{is_plain}
+use Rattle.promql_label.specs.Answers.{Answer, Allows, anchor, as_it_is, built, by_escaping, has_one_answer, is_read_pair, is_small, neither, pattern_answer, rejected}
+use Rattle.promql_label.specs.PatternMeasure.{measure}
 use Rattle.promql_label.specs.Repeats.{escaped_repeats}
-use Rattle.promql_label.proofs.plain_patterns.PlainPatternsRead.{plain_pair_is_read}
-use Rattle.promql_label.proofs.regex_answers.Reading.{pair_read}
 use Rattle.std.specs.Prelude.{nat_le}
 
-pub small_is_plain : (u : Text) → is_small u ≡ true → is_plain u ≡ true
-small_is_plain u small = (and_parts (is_plain u) (nat_le (size u) 1000) small).0
+pub small_pair_is_read : (u : Text) → is_small u ≡ true → is_read_pair u ≡ true
+small_pair_is_read u small = (and_parts (nat_le (measure u) 16000) (is_read_pair u) small).1
 
-pub small_pair_is_read : (u : Text) → is_small u ≡ true → IsReadPair u
-small_pair_is_read u small = plain_pair_is_read u (small_is_plain u small)
+-- what measures more is not small
+pub large_is_not_small : (u : Text) → nat_le (measure u) 16000 ≡ false → is_small u ≡ false
+large_is_not_small u large = ap (λ b. b && is_read_pair u) large
 
--- what is not read is not small
-pair_not_small : (u : Text) → is_read_pair u ≡ false → is_small u ≡ false
-pair_not_small u none =
-    ⊎_elim
-    (λ (small : is_small u ≡ true). absurd (true≢false (sym (pair_read u (small_pair_is_read u small)) ∙ none)))
-    (λ (large : is_small u ≡ false). large)
-    (cases_Bool (is_small u))
+and_false : (a : Bool) → (a && false) ≡ false
+and_false true = refl
+and_false false = refl
+
+-- nor is what is not read
+pub pair_not_small : (u : Text) → is_read_pair u ≡ false → is_small u ≡ false
+pair_not_small u none = ap (λ b. nat_le (measure u) 16000 && b) none ∙ and_false (nat_le (measure u) 16000)
 
 -- ---- the computed answer
 

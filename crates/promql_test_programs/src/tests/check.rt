@@ -234,7 +234,7 @@ const LIMITS: [Row; 6] = [
         b"{a=~'b',b!~'\\\\w{32000}',c=~'d'} b",
         14,
         "",
-        "1:12: patterns are too large: 800039, at most 16000\n{a=~'b',b!~'\\\\w{32000}',c=~'d'} b\n           ^~~~~~~~~~~~\n",
+        "1:12: patterns are too large: 1184051, at most 16000\n{a=~'b',b!~'\\\\w{32000}',c=~'d'} b\n           ^~~~~~~~~~~~\n",
     ),
 ];
 

@@ -184,19 +184,19 @@ fn is_found(alloc: Global, value: &str, text: &str) -> Result<bool, Failed> {
     Ok(matcher(alloc, value)?.is_match(alloc, text)?)
 }
 
-/// Patterns that take as much to compile as any small one: a piece so many times, the middle, and another piece as often; then
-/// a text that it matches, a piece so many times.
+/// Patterns that measure nearly as much as a small one may, and take the most to compile: a piece so many times, the middle, and another
+/// piece as often; then a text that it matches, a piece so many times.
 const DENSE: [(&str, usize, &str, &str, &str, usize); 11] = [
-    (r"\w", 497, "", "", "é", 497),
-    (r"\pL", 331, "", "", "é", 331),
-    (r"\PL", 331, "", "", "1", 331),
-    ("(?i)k", 198, "", "", "K", 198),
-    ("[^a]", 248, "", "", "é", 248),
-    (r"\w{82}", 1, "", "", "a", 82),
-    (r"\W", 497, "", "", "-", 497),
-    (r"[^\d]", 198, "", "", "é", 198),
-    (r"\w{0,70}", 1, "", "", "é", 70),
-    (r"(\w{7}){6}", 1, "", "", "a", 42),
+    (r"\w", 666, "", "", "é", 666),
+    (r"\pL", 639, "", "", "é", 639),
+    (r"\PL", 639, "", "", "1", 639),
+    ("(?i)k", 3194, "", "", "K", 3194),
+    ("[^a]", 3998, "", "", "é", 3998),
+    (r"\w{456}", 1, "", "", "a", 456),
+    (r"\W", 666, "", "", "-", 666),
+    (r"[^\d]", 592, "", "", "é", 592),
+    (r"\w{0,431}", 1, "", "", "é", 431),
+    (r"(\w{20}){18}", 1, "", "", "a", 360),
     ("(", 200, "a", ")", "a", 1),
 ];
 
