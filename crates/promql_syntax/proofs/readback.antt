@@ -6,5 +6,6 @@ pub mod CanonicalTrees
 pub mod CheckedAgain
 pub mod Derive
 pub mod Printable
+pub mod ServedTrees
 pub mod SpelledWords
 pub mod UnsignedNumbers

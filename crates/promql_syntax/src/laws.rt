@@ -6,7 +6,7 @@ ghost use Rattle.promql_grammar.specs.Grammar.{Arguments, Derivation, IsWellForm
 ghost use Rattle.promql_grammar.specs.Symbols.{punct};
 ghost use Rattle.promql_grammar.specs.declared.token_kinds.TokenKind.TheVariants as kind;
 ghost use Rattle.promql_text.specs.Texts.{Text};
-ghost use Rattle.promql_label.specs.Answers.{Answer, pattern_answer};
+ghost use Rattle.promql_label.specs.Answers.{Allows, Answer, pattern_answer};
 ghost use Rattle.promql_ast.specs.Layout.{layout_of};
 ghost use Rattle.promql_ast.specs.Normal.{normal};
 ghost use Rattle.promql_ast.specs.Text.{text};
@@ -65,6 +65,12 @@ pub fn answers_are_trees()
     ensures is { (g : Text → Answer) (source : Text) (answers : List Asked)
         (answer : Result Tree PlainParseError) (t : Tree) → IsServed source answers answer
         → AreAnswersOf g answers → HasTree g source t → answer ≡ Ok t }
+{}
+
+/// With one answer for each pattern, which is allowed, a text that has a tree is answered by it.
+pub fn trees_are_answers()
+    ensures { (g : Text → Answer) → ((v : Text) → Allows v (g v)) → (source : Text) (t : Tree)
+        → HasTree g source t → (answers : List Asked) × IsServed source answers (Ok t) }
 {}
 
 /// With one answer for each pattern, the text of a text's tree, on one line or laid out at any

@@ -33,7 +33,7 @@ use Rattle.promql_syntax.proofs.readback.SpelledWords.{has_words}
 
 -- ---- a text has one tree
 
-same_yield : (z : Text) (c d : Derivation) → Derives z c → Derives z d → yield c ≡ yield d
+pub same_yield : (z : Text) (c d : Derivation) → Derives z c → Derives z d → yield c ≡ yield d
 same_yield z c d first second =
     let both : ◌≡◌ {A = Result (List Symbol) LexFault} (Ok (yield c)) (Ok (yield d)) = sym first.spells ∙ second.spells in
     cc
@@ -47,7 +47,7 @@ one_tree g z s t first second =
 
 -- ---- answers
 
-built_ok : (r : Result Tree BuildError) (t : Tree) → Ok t ≡ on_error fault r → r ≡ Ok t
+pub built_ok : (r : Result Tree BuildError) (t : Tree) → Ok t ≡ on_error fault r → r ≡ Ok t
 built_ok (Ok u) t same = cc
 built_ok (Err e) t same = cc
 
