@@ -8,13 +8,16 @@ ghost use Rattle.promql_query.specs.EnforcedLines.{Enforces, IsEnforcedLine};
 ghost use Rattle.promql_query.specs.EnforceSteps.{IsNotEnforced};
 ghost use Rattle.promql_query.specs.LinesWithin.{HasLine};
 ghost use Rattle.promql_query.specs.QueryErrors.{Then};
+ghost use Rattle.promql_rewrite.specs.EnforcedWithin.{IsEnforcedWith};
+ghost use Rattle.promql_syntax.specs.ParseAnswers.{IsAnswerTo};
+ghost use Rattle.promql_text.specs.Texts.{Text};
 
 use crate::limit_checks::check_matcher;
-use crate::line_within::line_within;
+use crate::line_within::{line_within, meant_line};
 use crate::query_error::{Measured, QueryError};
 use crate::query_tree::query_tree;
 use promql_ast::{Expr, drop_expr};
-use promql_rewrite::{EnforceWithinError, enforce_text_within};
+use promql_rewrite::{EnforceWithinError, Enforced, enforce_text_within};
 use promql_span::limits::{LimitFault, Limits};
 use std::alloc::Global;
 
@@ -35,9 +38,10 @@ pub(crate) fn enforced_within(
     expr: Expr,
     matcher: &str,
     most: usize,
-) -> Result<Expr, NotEnforced>
-    ensures ok { IfOk result (λ e. Enforces limits.now matcher.now (tree_of expr) (Ok (tree_of e))) }
-    ensures short { IfOk result (λ e. length (line_text (tree_of e)) ≤ most) }
+) -> Result<Enforced, NotEnforced>
+    ensures ok { IfOk result (λ e. Enforces limits.now matcher.now (tree_of expr) (Ok (tree_of e.expr))) }
+    ensures pattern { IfOk result (λ e. IsEnforcedWith matcher.now (tree_of expr) (tree_of e.expr) e.has_pattern) }
+    ensures short { IfOk result (λ e. length (line_text (tree_of e.expr)) ≤ most) }
     ensures err { IfErr result (IsNotEnforced limits.now matcher.now (tree_of expr) most) }
 {
     if let Err(error) = check_matcher(alloc, limits, matcher) {
@@ -64,14 +68,15 @@ fn long_line(limits: &Limits, len: usize) -> QueryError
     QueryError::Large(Measured::EnforcedLine, LimitFault::TooLong { len, most })
 }
 
-/// The line of an expression with the matcher in every selector. The line is within the limits, is read again, and means the
-/// enforced tree.
+/// The line of an expression, that of a query, with the matcher in every selector. The line is within the limits, and means the enforced
+/// tree: it is read again where the query or the matcher has a pattern.
 fn show_enforced(
     alloc: Global,
     limits: &Limits,
     expr: Expr,
     matcher: &str,
 ) -> Result<String, QueryError>
+    requires { (source : Text) × IsAnswerTo source (Ok (tree_of expr)) }
     ensures ok { IfOk result (λ s. Then (Enforces limits.now matcher.now (tree_of expr)) (HasLine Measured.EnforcedLine limits.now) (Ok (string_bytes s))) }
     ensures err { IfErr result (λ e. Then (Enforces limits.now matcher.now (tree_of expr)) (HasLine Measured.EnforcedLine limits.now) (Err e)) }
 {
@@ -80,13 +85,18 @@ fn show_enforced(
         Err(NotEnforced::Query(error)) => return Err(error),
         Err(NotEnforced::TooLong(len)) => return Err(long_line(limits, len)),
     };
-    let line = line_within(alloc, limits, Measured::EnforcedLine, &enforced);
-    drop_expr(enforced);
+    promql_rewrite::laws::enforced_lines_without_patterns();
+    let line = if enforced.has_pattern {
+        line_within(alloc, limits, Measured::EnforcedLine, &enforced.expr)
+    } else {
+        meant_line(alloc, limits, Measured::EnforcedLine, &enforced.expr)
+    };
+    drop_expr(enforced.expr);
     line
 }
 
-/// The line of a query with a matcher, which is given as its text, in every selector. The line is within the limits, too; it is
-/// read again, and means the enforced tree of the query.
+/// The line of a query with a matcher, which is given as its text, in every selector. The line is within the limits, too, and means the
+/// enforced tree of the query: it is read again where the query or the matcher has a pattern, and else by a law.
 ///
 /// # Errors
 ///

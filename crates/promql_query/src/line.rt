@@ -94,7 +94,7 @@ fn enforced(
         return Ok(expr);
     };
     match enforced_within(alloc, limits, expr, text, limits.max_output) {
-        Ok(enforced) => Ok(enforced),
+        Ok(enforced) => Ok(enforced.expr),
         Err(NotEnforced::Query(error)) => Err(error),
         Err(NotEnforced::TooLong(len)) => Err(long_line(limits, len)),
     }

@@ -9,5 +9,6 @@ pub mod EnforcedTexts
 pub mod EnforcedTrees
 pub mod EnforcedTwice
 pub mod EnforcedTypes
+pub mod PlainQueries
 pub mod SameMatchers
 pub mod SecondMatchers

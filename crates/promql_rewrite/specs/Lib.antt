@@ -19,6 +19,7 @@ pub mod Mapping
 pub mod MatcherTexts
 pub mod NodeRules
 pub mod Parenthesizing
+pub mod Patterns
 pub mod PrintableConditions
 pub mod PrintableNodes
 pub mod PrintableTrees

@@ -4,7 +4,7 @@ ghost use Rattle.std.specs.Prelude.{◌≡◌, ◌<◌, ◌≤◌, ℕ, Err, IfE
 ghost use Rattle.promql_ast.specs.Text.{text as line_text};
 ghost use Rattle.promql_ast.specs.View.{tree_of};
 ghost use Rattle.promql_label.specs.MatcherViews.{plain_matcher_of};
-ghost use Rattle.promql_rewrite.specs.EnforcedWithin.{IsLongEnforced, IsPlaceFault};
+ghost use Rattle.promql_rewrite.specs.EnforcedWithin.{IsEnforcedWith, IsLongEnforced, IsPlaceFault};
 ghost use Rattle.promql_rewrite.specs.Enforcing.{enforced, has_bare_info};
 ghost use Rattle.promql_rewrite.specs.MatcherTexts.{IsEnforcedBy, IsMatcherText, MeetsBareInfo};
 
@@ -12,6 +12,7 @@ use crate::bare_info::has_bare_info;
 use crate::enforced_len::enforced_len;
 use crate::enforcing::enforce_expr;
 use crate::matcher_text::{MatcherError, read_matcher};
+use crate::patterns::{has_pattern, is_regex};
 use promql_ast::Expr;
 use promql_label::Matcher;
 use std::alloc::{AllocError, Global};
@@ -43,6 +44,16 @@ impl From<AllocError> for EnforceWithinError {
     fn from(_e: AllocError) -> EnforceWithinError {
         EnforceWithinError::Memory
     }
+}
+
+/// An expression with a matcher in every selector.
+#[derive(Drop)]
+pub struct Enforced {
+    /// The expression.
+    pub expr: Expr,
+    /// Whether the expression, as it was, or the matcher has a pattern. Where neither has one, and the expression is that of a text, its
+    /// line means it (law `enforced_lines_without_patterns`), and need not be read again.
+    pub has_pattern: bool,
 }
 
 /// Puts the matcher into every selector, where the line has at most `most` bytes then.
@@ -84,9 +95,10 @@ pub fn enforce_text_within(
     expr: Expr,
     text: &str,
     most: usize,
-) -> Result<Expr, EnforceWithinError>
-    ensures ok { IfOk result (λ e. IsEnforcedBy text.now (tree_of expr) (tree_of e)) }
-    ensures short { IfOk result (λ e. length (line_text (tree_of e)) ≤ most) }
+) -> Result<Enforced, EnforceWithinError>
+    ensures ok { IfOk result (λ e. IsEnforcedBy text.now (tree_of expr) (tree_of e.expr)) }
+    ensures pattern { IfOk result (λ e. IsEnforcedWith text.now (tree_of expr) (tree_of e.expr) e.has_pattern) }
+    ensures short { IfOk result (λ e. length (line_text (tree_of e.expr)) ≤ most) }
     ensures matcher { (e : MatcherError) → IsErrOf result (EnforceWithinError.Matcher e) → IsMatcherText text.now (Err e) }
     ensures info { IsErrOf result EnforceWithinError.Info → MeetsBareInfo text.now (tree_of expr) }
     ensures long { (len : ℕ) → IsErrOf result (EnforceWithinError.TooLong len) → IsLongEnforced text.now (tree_of expr) most len }
@@ -102,9 +114,10 @@ pub fn enforce_text_within(
             return Err(EnforceWithinError::Matcher(error));
         }
     };
+    let has_pattern = is_regex(&matcher) || has_pattern(&expr);
     let mut expr = expr;
     match enforce_within(alloc, &mut expr, &matcher, most) {
-        Ok(()) => Ok(expr),
+        Ok(()) => Ok(Enforced { expr, has_pattern }),
         Err(error) => {
             drop(expr);
             Err(error)

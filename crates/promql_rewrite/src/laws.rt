@@ -25,15 +25,18 @@ ghost use Rattle.promql_ast.specs.Tree.{Tree, Trees, binary, call, matrix, vecto
 ghost use Rattle.promql_ast.specs.Typed.{Typed};
 ghost use Rattle.promql_ast.specs.Types.{type_of};
 ghost use Rattle.promql_ast.specs.declared.range_mode.RangeMode.{RangeMode};
-ghost use Rattle.promql_syntax.specs.ParseAnswers.{HasTree};
+ghost use Rattle.promql_syntax.specs.Asking.{Asked};
+ghost use Rattle.promql_syntax.specs.ParseAnswers.{HasTree, IsServed};
 ghost use Rattle.promql_syntax.specs.declared.parser.TheConstants.{MAX_DEPTH};
 ghost use Rattle.promql_rewrite.specs.AddedParens.{AddsParens};
 ghost use Rattle.promql_rewrite.specs.Answered.{IsAnswered};
 ghost use Rattle.promql_rewrite.specs.Collecting.{IsSetOf, from_nodes, is_metric_name, own_functions, own_labels, own_metrics};
 ghost use Rattle.promql_rewrite.specs.Enforcing.{enforced, enforced_selector, has_bare_info, is_info};
 ghost use Rattle.promql_rewrite.specs.Everywhere.{Everywhere};
+ghost use Rattle.promql_rewrite.specs.Faithful.{Means};
 ghost use Rattle.promql_rewrite.specs.Mapping.{KindedSelector, outline, selectors_of};
 ghost use Rattle.promql_rewrite.specs.Parenthesizing.{parenthesized};
+ghost use Rattle.promql_rewrite.specs.Patterns.{has_pattern, is_regex};
 ghost use Rattle.promql_rewrite.specs.PrintableConditions.{AreGrouped, IsRightSide, PrintableOffset, PrintableTime};
 ghost use Rattle.promql_rewrite.specs.PrintableTrees.{HasParts, IsPlaced, IsPrintable, IsPrintableAlone, PatternsAnswered, printed_height};
 ghost use Rattle.promql_rewrite.specs.RenamedParts.{clause_with, label_with, matching_with, metric_with, selector_with};
@@ -94,6 +97,17 @@ pub fn enforced_queries_read_back()
         → IsAnswered g c → name_of c ≢ codes "__name__" → (level most : ℕ)
         → HasTree g (layout_of (enforced c t) level most) (normal (enforced c t)) }
 {}
+
+/// The line of a query in which a matcher was enforced means the enforced tree where neither has a pattern, with no premise on
+/// `regex`.
+pub fn enforced_lines_without_patterns()
+    ensures { (source : Text) (answers : List Asked) (t : Tree) (c : PlainMatcher) → IsServed source answers (Ok t)
+        → has_pattern t ≡ false → is_regex c ≡ false → name_of c ≢ codes "__name__"
+        → Means (text (enforced c t)) (enforced c t) }
+{
+    promql_label::laws::small_patterns_have_one_answer();
+    promql_syntax::laws::trees_are_answers();
+}
 
 /// With one answer for each pattern, the texts of a printable tree, on one line or laid out at any level and width, have the
 /// tree's normal form, whoever built the tree.

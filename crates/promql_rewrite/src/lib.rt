@@ -10,7 +10,7 @@
 
 pub use collecting::{Collected, CollectedSelector, collect};
 pub use enforcing::{EnforceError, enforce, enforce_query};
-pub use enforcing_within::{EnforceWithinError, enforce_text_within};
+pub use enforcing_within::{EnforceWithinError, Enforced, enforce_text_within};
 pub use faithful::{NotFaithful, check_meaning, faithful_line, faithful_pretty};
 pub use mapping::{SelectorKind, SelectorMapper, map_selectors};
 pub use matcher_text::{EnforceTextError, MatcherError, enforce_text, read_matcher};
@@ -30,6 +30,7 @@ pub mod laws;
 pub mod mapping;
 pub mod matcher_text;
 pub mod parenthesizing;
+mod patterns;
 pub mod printable;
 mod reasons;
 pub mod renaming;

@@ -6,8 +6,8 @@ use Rattle.promql_query.proofs.line.enforced.Goals as goal
 
 pub returns-in-Ok-clause-ok : goal.returns-in-Ok-clause-ok
 returns-in-Ok-clause-ok c =
-    subst (λ m. IsAsked c.args.limits.now (option_map (λ s. s.now) m) (tree_of c.args.expr) (Ok (tree_of c.in-Ok.enforced))) (sym c.in-Some.is)
-    (tree_of c.in-Ok.enforced, c.in-Ok.ensures.ok, inl (c.in-Ok.ensures.short, refl))
+    subst (λ m. IsAsked c.args.limits.now (option_map (λ s. s.now) m) (tree_of c.args.expr) (Ok (tree_of c.in-Ok.enforced.expr))) (sym c.in-Some.is)
+    (tree_of c.in-Ok.enforced.expr, c.in-Ok.ensures.ok, inl (c.in-Ok.ensures.short, refl))
 
 pub returns-in-Err-TooLong-clause-err : goal.returns-in-Err-TooLong-clause-err
 returns-in-Err-TooLong-clause-err c =

@@ -164,10 +164,10 @@ fn is_bounded(alloc: Global, query: &str, want: &str) -> Result<bool, Failed> {
     let is_long = matches!(less, Err(EnforceWithinError::TooLong(found)) if found == len);
     drop(less);
     match enforced {
-        Ok(expr) => {
-            let line = expr.to_string(alloc);
-            drop(expr);
-            Ok(line?.as_str() == want && is_long)
+        Ok(enforced) => {
+            let line = enforced.expr.to_string(alloc);
+            drop(enforced.expr);
+            Ok(line?.as_str() == want && is_long && !enforced.has_pattern)
         }
         Err(_) => Ok(false),
     }
