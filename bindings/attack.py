@@ -147,6 +147,13 @@ REJECTED = {
     "2,000 matchers, and a name": ("{" + 'a=~"",' * 2_000 + 'a="" a}', '"}"', 2.5),
 }
 
+# Lines of which a batch has a mebibyte, and how many seconds that may take, ten times what it takes.
+LINES = {
+    r"lines with the pattern \w{456}": (matchers(1, r"\w{456}"), 10),
+    r"lines with 600 of \w": (matchers(1, r"\w" * 600), 10),
+    r"lines with the pattern \pL": (matchers(1, r"\pL"), 60),
+    "rejected lines": ("a+", 60),
+}
 
 PROMQL = released("promql")
 # The subcommands that read one query, with their words.
@@ -203,6 +210,7 @@ def attack_by_queries():
         print("not tried: queries of large patterns: the programs of dist/ know no --max-patterns")
         return
     attack_by_patterns()
+    attack_by_many_lines()
 
 
 def attack_by_rejected_queries():
@@ -218,6 +226,16 @@ def attack_by_rejected_queries():
             told = json.dumps(expected)[1:-1] if words[1] == "batch" else expected
             is_so = ran.status == 4 and told in ran.out + ran.err and ran.seconds < seconds + (0.2 if words is explain else 0)
             check(f"{name}, {Path(words[0]).name} {words[1]}", is_so, (ran.status, ran.out[-300:], ran.err[-300:], ran.seconds))
+
+
+def attack_by_many_lines():
+    """A mebibyte of a batch's lines. A pattern within the limits is not compiled, so one that is dear to compile is as cheap as others."""
+    for name, (query, seconds) in LINES.items():
+        line = json.dumps(query) + "\n"
+        count = 2**20 // len(line)
+        ran = run([PROMQL, "batch", "line"], line * count, seconds=seconds)
+        is_so = ran.status in (0, 4) and ran.out.count("\n") == count
+        check(f"a mebibyte of {name}, {PROMQL}", is_so, (ran.status, ran.out[-100:], ran.err[-300:], ran.seconds))
 
 
 def attack_by_patterns():
