@@ -191,7 +191,7 @@ def always_true(subject: Subject) -> Iterator[Remark]:
 # A name that `by` takes without quotes; the points are those of OpenTelemetry.
 _LABEL = re.compile(r"[A-Za-z_][\w.]*", re.ASCII)
 # What the patterns of a text measure at most that is tried (docs/reference/programs.md, "Limits of a query").
-_MOST_MEASURED = 300
+_MOST_MEASURED = 700
 
 
 @rule("P310", "failing-argument", Severity.ERROR)
