@@ -157,7 +157,7 @@ func TestExplain(t *testing.T) {
 		`foo{a=="b"}`:          {`unexpected "=", expected string; a matcher has one "="`, []string{"string"}, `"="`},
 		"sum by (job 1) (foo)": {`unexpected number "1", expected "," or ")"`, []string{`","`, `")"`}, `number "1"`},
 		"nosuch(1)":            {Message: "unknown function with name 'nosuch'"},
-		`foo{a=~"\\w{690}"b}`:  {`unexpected identifier "b", expected ",", "}" or "or"`, []string{`","`, `"}"`, `"or"`}, `identifier "b"`},
+		`foo{a=~"\\w{400}"b}`:  {`unexpected identifier "b", expected ",", "}" or "or"`, []string{`","`, `"}"`, `"or"`}, `identifier "b"`},
 		`a{b=~"c{3000}"}`:      {Message: "patterns are too large: 39013, at most 16000"},
 	} {
 		if got := rejection(t, query).Explain(); !reflect.DeepEqual(got, want) {
@@ -413,7 +413,7 @@ func TestLargePatternsOfTrees(t *testing.T) {
 }
 
 func TestVersion(t *testing.T) {
-	if got := promql.Version(); got != "0.9.0" {
+	if got := promql.Version(); got != "0.10.0" {
 		t.Error(got)
 	}
 }

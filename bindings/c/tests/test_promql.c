@@ -491,7 +491,7 @@ static void test_long_names(void)
 
 static void test_explaining(void)
 {
-    const char *query = "foo{a=b}", *slip = "foo{a==\"b\"}", *unknown = "nosuch(1)", *large = "foo{a=~\"\\\\w{690}\"} b";
+    const char *query = "foo{a=b}", *slip = "foo{a==\"b\"}", *unknown = "nosuch(1)", *large = "foo{a=~\"\\\\w{400}\"} b";
     struct request r = of_query(CALL_EXPLAIN, query);
     CHECK(gives(r, PROMQL_OK, "unexpected identifier \"b\", expected string"));
     CHECK(has_place(r, 0, 0, 0, 0));

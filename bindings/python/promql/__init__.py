@@ -41,7 +41,7 @@ __all__ = [
     "is_constant", "last_read", "limits", "may_read", "parse", "parts", "pinned", "places", "pretty", "print_tree",
     "reaches", "rename_label", "rename_metric", "set_limits", "set_target", "tokens", "tree", "version", "windows",
 ]
-__version__ = "0.9.0"
+__version__ = "0.10.0"
 
 
 def __dir__() -> List[str]:

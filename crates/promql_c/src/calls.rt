@@ -37,7 +37,7 @@ use promql_when::Times;
 use std::alloc::Global;
 
 /// The version of the calls: a new call, or a new status of one, has a new version.
-pub const CALLS_VERSION: &str = "0.9.0";
+pub const CALLS_VERSION: &str = "0.10.0";
 
 /// Prints a query in the mode of this number: 0 on one line, 1 laid out, 2 as JSON, 3 as JSON with the places of nodes and
 /// matchers. `level` counts indentations of two spaces, at most 512, and `width` is the most bytes that a line has, its

@@ -5,7 +5,7 @@ pub const USAGE: &str =
     "usage: promql line|pretty|json|check|format|enforce|batch [OPTION..] [FILE..]\n";
 
 /// What `--version` prints.
-pub const VERSION: &str = "promql 0.9.0\n";
+pub const VERSION: &str = "promql 0.10.0\n";
 
 /// What `--help` prints.
 pub const HELP: &str =

@@ -90,7 +90,7 @@ func TestCommandLines(t *testing.T) {
 		t.Errorf("a matcher over the limits: %d %s", status, limited.String())
 	}
 	var out, log strings.Builder
-	if status := run([]string{"-version"}, &out, &log); status != ended || out.String() != "promql-proxy 0.9.0\n" {
+	if status := run([]string{"-version"}, &out, &log); status != ended || out.String() != "promql-proxy 0.10.0\n" {
 		t.Errorf("-version: %d %s", status, out.String())
 	}
 	for _, option := range []string{"-help", "-h"} {
@@ -311,7 +311,7 @@ func TestGracefulEnd(t *testing.T) {
 		t.Errorf("the request that was there: %s", found)
 	}
 	err := process.Wait()
-	for _, wanted := range []string{"msg=starting version=0.9.0 upstream=http://127.0.0.1:", " label=tenant tenant=a\n", "msg=stopping", "msg=stopped"} {
+	for _, wanted := range []string{"msg=starting version=0.10.0 upstream=http://127.0.0.1:", " label=tenant tenant=a\n", "msg=stopping", "msg=stopped"} {
 		if err != nil || !strings.Contains(process.log.String(), wanted) {
 			t.Errorf("%v: no %q in %s", err, wanted, process.log)
 		}
@@ -340,7 +340,7 @@ func TestMetricsOfItsOwnListener(t *testing.T) {
 	}
 	status, text := get("http://" + process.inside + "/metrics")
 	for _, wanted := range []string{
-		`promql_proxy_build_info{version="0.9.0",goversion="go`, `promql_proxy_requests_total{endpoint="none",method="GET",code="404"} 1`,
+		`promql_proxy_build_info{version="0.10.0",goversion="go`, `promql_proxy_requests_total{endpoint="none",method="GET",code="404"} 1`,
 	} {
 		if status != 200 || !strings.Contains(text, wanted) {
 			t.Errorf("%d, no %s in %s", status, wanted, text)

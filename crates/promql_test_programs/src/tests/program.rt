@@ -69,8 +69,8 @@ const ROWS: [Row; 18] = [
     (&["promql"], b"1", 64, "", USAGE),
     (&["line"], b"1", 64, "", USAGE),
     (&["", "--help"], b"1", 0, HELP, ""),
-    (&["", "--version"], b"1", 0, "promql 0.9.0\n", ""),
-    (&["", "line", "--version"], b"1", 0, "promql 0.9.0\n", ""),
+    (&["", "--version"], b"1", 0, "promql 0.10.0\n", ""),
+    (&["", "line", "--version"], b"1", 0, "promql 0.10.0\n", ""),
     (&["", "line", "-"], b"1", 0, "1\n", ""),
     (
         &["", "line", "--", "-", "-"],
