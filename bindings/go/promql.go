@@ -255,8 +255,8 @@ func formText(query string, mode C.uint32_t) (string, error) {
 }
 
 // Enforce returns the query on one line with a matcher in every selector, in each of its or-groups: that of a tenant, say. The matcher is
-// written as between the braces of a selector: namespace="team-a". What is returned is within the limits of a query, was read again, and
-// means the changed query (docs/guide/rewriting.md of the repository).
+// written as between the braces of a selector: namespace="team-a". What is returned is within the limits of a query, and means the
+// changed query (docs/guide/rewriting.md of the repository).
 func Enforce(query, matcher string) (string, error) {
 	bytes := append(make([]byte, 0, len(matcher)+1), matcher...)
 	first := (*C.char)(unsafe.Pointer(&bytes[:1][0]))

@@ -316,7 +316,7 @@ def enforce(query: str, matcher: str) -> str:
 
     The matcher is written as between the braces of a selector: `namespace="team-a"`. Raises MatcherError where it is none, or is one of
     `__name__`, BareInfoError where the query calls `info` without a second argument, and LargeEnforcedError where the matcher, or the query
-    with it, is not within the limits of a query. What is returned was read again, and means the changed query
+    with it, is not within the limits of a query. What is returned means the changed query
     (docs/guide/rewriting.md).
     """
     return _text(query, _caller.enforce(query, matcher))

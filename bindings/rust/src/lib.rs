@@ -299,7 +299,7 @@ pub fn placed_json(query: &str) -> Result<String, Error> {
 }
 
 /// The query on one line with a matcher in every selector, in each of its or-groups: that of a tenant, say. The matcher is written
-/// as between the braces of a selector: `namespace="team-a"`. What is returned was read again, and means the changed query
+/// as between the braces of a selector: `namespace="team-a"`. What is returned means the changed query
 /// (`docs/guide/rewriting.md` of the repository).
 ///
 /// # Errors

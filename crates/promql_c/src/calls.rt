@@ -67,8 +67,7 @@ pub fn canonical(alloc: Global, limits: &Limits, query: &[u8], buffer: &mut [u8]
 }
 
 /// Prints a query on one line with a matcher in every selector. The matcher is written as between the braces of a selector:
-/// `namespace="team-a"`, say. The line is within the limits, too; it is read again before, and means the enforced query
-/// (docs/guide/rewriting.md).
+/// `namespace="team-a"`, say. The line is within the limits, too, and means the enforced query (docs/guide/rewriting.md).
 pub fn enforce(
     alloc: Global,
     limits: &Limits,
