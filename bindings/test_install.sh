@@ -149,7 +149,7 @@ cmake_user() {
 
 found_by_cmake() {
     cmake_user "$work/finds" 'find_package(promql 0.10 REQUIRED)' 'find_package(promql REQUIRED)' &&
-        ! cmake_user "$work/finds_other" 'find_package(promql 0.8 REQUIRED)' && ! cmake_user "$work/finds_later" 'find_package(promql 0.10 REQUIRED)'
+        ! cmake_user "$work/finds_other" 'find_package(promql 0.9 REQUIRED)' && ! cmake_user "$work/finds_later" 'find_package(promql 0.11 REQUIRED)'
 }
 
 # A project that has this one as a part gets neither its tests nor its example.
