@@ -150,7 +150,8 @@ const LARGE: &str =
 0123456789 123456789 123456789 123456789 1 => 14 tree is too long: 42 bytes, at most 41
 [{"type":"=~","value":"aaaaaaaaaaaaaaa"}] => 14 patterns are too large: 21, at most 18
 [{"type":"!~","value":"\\w\\w"}] => 14 patterns are too large: 54, at most 18
-[{"type":"=~","value":"\\w"}] => 17 $: an object
+[{"type":"!~","value":"\\w"}] => 14 patterns are too large: 30, at most 18
+[{"type":"=~","value":"aaaaaaaaaaaa"}] => 17 $: an object
 [{"type":"=","value":"\\w\\w\\w"}] => 17 $: an object
 0123456789 123456789 123456789 123456789  => 17 not JSON
 {"type":"numberLiteral","val":"12345678"} => 14 query is too long: 8 bytes, at most 5
