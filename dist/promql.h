@@ -32,7 +32,7 @@ extern "C" {
 #endif
 
 /* The version of this header; promql_version has that of the library. */
-#define PROMQL_VERSION "0.9.0"
+#define PROMQL_VERSION "0.10.0"
 
 /* How promql_print prints. */
 enum promql_mode {
@@ -128,8 +128,8 @@ uint32_t promql_canonical(const char *query, size_t query_length, char *buffer, 
                           struct promql_result *result);
 
 /* Prints a query on one line with a matcher in every selector, in each of its or-groups: a tenant's, say. The matcher is written
- * as between the braces of a selector, as in namespace="team-a". The text is within the limits of a query; it was read again, and
- * means the changed query (docs/guide/rewriting.md). */
+ * as between the braces of a selector, as in namespace="team-a". The text is within the limits of a query, and means the changed
+ * query: it was read again where a pattern is in the query or the matcher, and else by a law (docs/guide/rewriting.md). */
 uint32_t promql_enforce(const char *query, size_t query_length, const char *matcher, size_t matcher_length, char *buffer,
                         size_t buffer_size, struct promql_result *result);
 
